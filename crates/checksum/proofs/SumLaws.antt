@@ -1,0 +1,78 @@
+-- Laws of the two sums: their bounds, and how a scan of a slice steps through them.
+use Prim.Native.Nat.{ℕ, suc, _+_, _*_, _%_, _-_, _<_, _≤_}
+use mathlib.Core.Path.{_≡_, refl, sym, _∙_, ap, ap₂}
+use mathlib.Core.List.{List, [], _∷_, _++_}
+use native.Mathlib.Omega.{arith}
+use native.Mathlib.Numerals.{add-one}
+use native.Mathlib.Nat.{mod-add-mod, add-mod-mod, mod-eq-of-lt}
+use lib.ListN.{length, take, drop, getD, drop-of-length-le, take-append-drop}
+use lib.Seq.{drop-cons, drop-drop}
+use Rattle.checksum.specs.Checksum.{sumA, sumB, checksumOf}
+
+pub sumA-lt : (a : ℕ) (xs : List ℕ) → a < 65535 → sumA a xs < 65535
+unfolding sumA
+sumA-lt a [] h = h
+sumA-lt a (x ∷ xs) h = sumA-lt ((a + x) % 65535) xs (omega arith)
+
+pub sumB-lt : (a b : ℕ) (xs : List ℕ) → b < 65535 → sumB a b xs < 65535
+unfolding sumB
+sumB-lt a b [] h = h
+sumB-lt a b (x ∷ xs) h = sumB-lt ((a + x) % 65535) ((b + (a + x) % 65535) % 65535) xs (omega arith)
+
+-- ---- a chunk, added up without a reduction
+
+pub chunk-start : (s : List ℕ) (a b : ℕ) → a < 65535 → b < 65535
+    → (sumA (a % 65535) (drop 0 s) ≡ sumA a s) × (sumB (a % 65535) (b % 65535) (drop 0 s) ≡ sumB a b s)
+chunk-start s a b ha hb = rw (mod-eq-of-lt ha, mod-eq-of-lt hb) (refl, refl)
+
+pub chunk-stepA : (s : List ℕ) (x i : ℕ) → i < length s → sumA (x % 65535) (drop i s) ≡ sumA ((x + getD s i 0) % 65535) (drop (i + 1) s)
+unfolding sumA
+chunk-stepA s x i below = rw (add-one, drop-cons s i 0) (ap (λ (a : ℕ). sumA a (drop (suc i) s)) (mod-add-mod _ _ _))
+
+pub chunk-stepB : (s : List ℕ) (x y i : ℕ) → i < length s
+    → sumB (x % 65535) (y % 65535) (drop i s) ≡ sumB ((x + getD s i 0) % 65535) ((y + (x + getD s i 0)) % 65535) (drop (i + 1) s)
+unfolding sumB
+chunk-stepB s x y i below =
+    rw (add-one, drop-cons s i 0)
+    (ap₂ (λ (a b : ℕ). sumB a b (drop (suc i) s)) (mod-add-mod _ _ _) (simp (mod-add-mod, add-mod-mod) refl))
+
+pub chunk-endA : (s : List ℕ) (x i : ℕ) → length s ≤ i → sumA (x % 65535) (drop i s) ≡ x % 65535
+unfolding sumA
+chunk-endA s x i h = rw (drop-of-length-le s h) refl
+
+pub chunk-endB : (s : List ℕ) (x y i : ℕ) → length s ≤ i → sumB (x % 65535) (y % 65535) (drop i s) ≡ y % 65535
+unfolding sumB
+chunk-endB s x y i h = rw (drop-of-length-le s h) refl
+
+-- ---- chunk after chunk
+
+pub sumA-append : (a : ℕ) (xs ys : List ℕ) → sumA a (xs ++ ys) ≡ sumA (sumA a xs) ys
+unfolding sumA
+sumA-append a [] ys = refl
+sumA-append a (x ∷ xs) ys = sumA-append ((a + x) % 65535) xs ys
+
+pub sumB-append : (a b : ℕ) (xs ys : List ℕ) → sumB a b (xs ++ ys) ≡ sumB (sumA a xs) (sumB a b xs) ys
+unfolding sumA sumB
+sumB-append a b [] ys = refl
+sumB-append a b (x ∷ xs) ys = sumB-append ((a + x) % 65535) ((b + (a + x) % 65535) % 65535) xs ys
+
+split : (s : List ℕ) (i e : ℕ) → i ≤ e → take (e - i) (drop i s) ++ drop e s ≡ drop i s
+split s i e h =
+    let k : i + (e - i) ≡ e = omega arith in
+    rw (sym k, sym (drop-drop (e - i) i s)) (rw k (take-append-drop (e - i) (drop i s)))
+
+pub chunksA : (s : List ℕ) (a i e : ℕ) → i ≤ e → sumA (sumA a (take (e - i) (drop i s))) (drop e s) ≡ sumA a (drop i s)
+chunksA s a i e h = sym (sumA-append a (take (e - i) (drop i s)) (drop e s)) ∙ ap (sumA a) (split s i e h)
+
+pub chunksB : (s : List ℕ) (a b i e : ℕ) → i ≤ e
+    → sumB (sumA a (take (e - i) (drop i s))) (sumB a b (take (e - i) (drop i s))) (drop e s) ≡ sumB a b (drop i s)
+chunksB s a b i e h = sym (sumB-append a b (take (e - i) (drop i s)) (drop e s)) ∙ ap (sumB a b) (split s i e h)
+
+pub chunks-end : (s : List ℕ) (a b i : ℕ) → length s ≤ i → sumA a (drop i s) ≡ sumA 1 s → sumB a b (drop i s) ≡ sumB 1 0 s
+    → b * 65536 + a ≡ checksumOf s
+unfolding checksumOf sumA sumB
+chunks-end s a b i h p q =
+    let e : drop i s ≡ [] = drop-of-length-le s h in
+    let p′ : a ≡ sumA 1 s = rw e at p in
+    let q′ : b ≡ sumB 1 0 s = rw e at q in
+    cc

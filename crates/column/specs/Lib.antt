@@ -1,0 +1,4 @@
+-- What the contracts of `column` cite.
+pub mod Column
+pub mod Digit
+pub mod ColumnState

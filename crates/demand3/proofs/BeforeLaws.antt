@@ -1,0 +1,82 @@
+-- A cluster before the damage, damaged, is one with histories.
+use Prim.Native.Nat.{ℕ, suc, _<_}
+use mathlib.Core.Path.{_≡_, refl}
+use mathlib.Core.Bool.{Bool, true, false, cond, not, _&&_}
+use native.Mathlib.Omega.{arith}
+use lib.Dec.{eqb}
+use Rattle.slices.specs.Parts.{Bytes}
+use Rattle.record.specs.Meaning.{Record, good, blank, Entry, intact}
+use Rattle.image.specs.Image.{Image}
+use Rattle.image.specs.Cluster.{Cluster}
+use Rattle.image.specs.View.{Condition, Unused, Whole, RecordLost, Faulty, Lost, conditionAt, epochOf, epochAt, logLength}
+use Rattle.image.specs.Verdict.{verdictOf, verdictAt, isFresh}
+use Rattle.image.proofs.ViewLaws.{length-le}
+use Rattle.planner.specs.Setting.{Setting}
+use Rattle.demand3.specs.Supposed.{DamagedSlot, undamaged, recordBad, entryBad, Damaged, Supposed}
+use Rattle.demand3.specs.Before.{Flight, FlightSlot, arrived, recordAlone, Before, SlotDamage, spared, recordDamaged, entryDamaged, unusedDamaged, Damage, payloadIn, historyOf, DamagedCluster}
+use Rattle.protocol.proofs.AtRest.{whole-slot}
+
+-- verdict 1 is whole
+verdict-one : (len k : ℕ) (a : Condition) (fresh : Bool) → verdictOf len k a fresh ≡ 1 → a ≡ Whole
+unfolding verdictOf
+verdict-one len k Whole fresh e = refl
+verdict-one len k RecordLost fresh e = absurd (omega (arith, e))
+verdict-one len k Faulty fresh e = go (eqb (suc k) len) e
+  where
+    go : (t : Bool) → _≡_ {A = ℕ} (cond t 4 3) 1 → Faulty ≡ Whole
+    go true x = absurd (omega (arith, x))
+    go false x = absurd (omega (arith, x))
+verdict-one len k Unused fresh e = go (eqb k len && not fresh) e
+  where
+    go : (t : Bool) → _≡_ {A = ℕ} (cond t 5 0) 1 → Unused ≡ Whole
+    go true x = absurd (omega (arith, x))
+    go false x = absurd (omega (arith, x))
+verdict-one len k Lost fresh e = absurd (omega (arith, e))
+
+-- a slot that was stored is one whose record and entry arrived
+stored-slot : (r : Record) (x : Entry) (e : ℕ) (p : Bytes) → r ≡ good e → x ≡ intact e p → FlightSlot (payloadIn x) r x
+unfolding payloadIn
+stored-slot r x e p a b = rw (a, b) arrived
+
+slot-damaged : {r s : Record} {x y : Entry} (p : Bytes) → FlightSlot p r x → SlotDamage r x s y → DamagedSlot (epochOf r x) p s y
+unfolding epochOf
+slot-damaged p arrived spared = undamaged
+slot-damaged p arrived recordDamaged = recordBad
+slot-damaged p arrived (entryDamaged h) = entryBad h
+slot-damaged p (recordAlone h) spared = entryBad h
+slot-damaged p (recordAlone h) recordDamaged = absurd (h _ refl)
+slot-damaged p (recordAlone h) (entryDamaged g) = entryBad g
+
+blank-kept : {r s : Record} {x y : Entry} → SlotDamage r x s y → r ≡ blank → s ≡ blank
+blank-kept spared e = e
+blank-kept recordDamaged e = absurd (let z : _≡_ {A = ℕ} 0 1 = cc in omega arith)
+blank-kept (entryDamaged h) e = e
+blank-kept unusedDamaged e = e
+
+module _ (m : ℕ) (f : Flight) (i : Image) (b : Before m f i) where
+  -- the slot and its payload
+  flight-slot : (k : ℕ) → k < logLength m i → FlightSlot (historyOf m f i .payload k) (i .records k) (i .entries k)
+  unfolding historyOf verdictAt conditionAt
+  flight-slot k h = go (f .inFlight k) refl
+    where
+      go : (t : Bool) → f .inFlight k ≡ t → FlightSlot (cond t (f .payload k) (payloadIn (i .entries k))) (i .records k) (i .entries k)
+      go true e = b .flying k h e
+      go false e =
+          let w = whole-slot (i .records k) (i .entries k) (verdict-one (logLength m i) k (conditionAt i k) (isFresh (i .entries k)) (b .stored k h e)) in
+          stored-slot (i .records k) (i .entries k) (epochOf (i .records k) (i .entries k)) (w .payload) (w .rec) (w .ent)
+
+  pub history-damaged : (j : Image) → Damage m i j → Damaged m (historyOf m f i) j
+  unfolding historyOf epochAt
+  history-damaged j d = record {
+    fits = length-le m i;
+    used = λ k h. slot-damaged (historyOf m f i .payload k) (flight-slot k h) (d .slots k (omega (arith, length-le m i)));
+    unused = λ k h km. blank-kept (d .slots k km) (b .behind k h km);
+  }
+
+pub damaged-cluster : (S : Setting) (F : Cluster) (f : ℕ → Flight) (G : Cluster) (k e : ℕ) (p : Bytes) → DamagedCluster S F f G k e p → Supposed S G (λ c. historyOf (S .m) (f c) (F c)) k e p
+damaged-cluster S F f G k e p s = record {
+  damaged = λ c cn. history-damaged (S .m) (f c) (F c) (s .before c cn) (G c) (s .damage c cn);
+  agree = s .agree;
+  onMajority = s .onMajority;
+  leaderHeld = s .leaderHeld;
+}

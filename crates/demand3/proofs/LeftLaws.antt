@@ -1,0 +1,57 @@
+-- Every call, cut short or not, leaves what recovery can reach.
+use Prim.Native.Nat.{ℕ, _<_}
+use mathlib.Core.Path.{_≡_, ap, _∙_}
+use mathlib.Core.Option.{some}
+use native.Mathlib.Omega.{arith}
+use lib.ListN.{length}
+use Rattle.search.specs.Search.{put}
+use Rattle.slices.specs.Parts.{Bytes}
+use Rattle.record.specs.Meaning.{Entry}
+use Rattle.image.specs.Image.{entryAt, setEntry}
+use Rattle.image.specs.Cluster.{imageAt, decode}
+use Rattle.image.proofs.DecodeLaws.{entry-fits}
+use Rattle.image.proofs.ClusterLaws.{length-in-image, entry-put}
+use Rattle.planner.specs.Setting.{Setting}
+use Rattle.protocol.specs.Store.{Store, storeEntry, storeReplica, storeSlot}
+use Rattle.protocol.specs.Recovery.{next}
+use Rattle.protocol.specs.StepBytes.{nextIn, stepsBytes}
+use Rattle.demand3.specs.Interrupted.{Interrupted, old, new, torn, LeftBytes, whole, interrupted}
+use Rattle.protocol.proofs.Due.{due-facts}
+use Rattle.protocol.proofs.Reach.{Reach, here, made, tore, reach-on}
+use Rattle.protocol.proofs.Runs.{reach-steps}
+use Rattle.protocol.proofs.Keeps.{due-target, due-slot}
+use Rattle.protocol.proofs.StepLaws.{next-means, steps-mean}
+use Rattle.protocol.proofs.Reach as reach
+
+module _ (S : Setting) (low : S .leader < S .n) where
+  open Setting S using (n, m)
+
+  pub record Reached (b a : Bytes) : Type 0 where
+    pub size : length a ≡ imageAt m n
+    pub reach : Reach S (decode n m b) (decode n m a)
+
+  interrupted-reach : {s : Store} {a : Bytes} (b : Bytes) → length b ≡ imageAt m n → next S (decode n m b) ≡ some s → Interrupted S b s a → Reached b a
+  unfolding storeReplica storeSlot
+  interrupted-reach b size e old = record { size = size; reach = here }
+  interrupted-reach b size e (new {s}) =
+      let w = next-means S low b size s e in
+      record { size = w .size; reach = rw (w .is) (made s e here) }
+  interrupted-reach b size e (torn {c} {k} {d} t l x) =
+      let u = due-facts S (decode n m b) (storeEntry c k d) e in
+      let cn = due-target S (decode n m b) (storeEntry c k d) low (u .plan) (u .is-due) .below in
+      let km = due-slot S (decode n m b) (storeEntry c k d) (u .is-due) in
+      let w = entry-put n m b size c k t cn km l ∙ ap (λ (y : Entry). put (decode n m b) c (setEntry (decode n m b c) k y)) x in
+      record {
+        size = length-in-image n m b size c cn (entryAt m k) t (omega (arith, entry-fits m k km));
+        reach = rw w (tore (storeEntry c k d) e (reach.torn t) here);
+      }
+
+  pub left-reach : {j : ℕ} {b a : Bytes} → length b ≡ imageAt m n → LeftBytes S j b a → Reached b a
+  unfolding nextIn
+  left-reach {j} {b} size whole =
+      let w = steps-mean S low j b size in
+      record { size = w .size; reach = rw (w .is) (reach-steps S j (decode n m b)) }
+  left-reach {j} {b} size (interrupted i s l e x) =
+      let w = steps-mean S low i b size in
+      let v = interrupted-reach (stepsBytes S i b) (w .size) e x in
+      record { size = v .size; reach = reach-on S (reach-steps S i (decode n m b)) (rw (w .is) at (v .reach)) }

@@ -1,0 +1,18 @@
+use Rattle.demand3.proofs.RunLaws.{uncut, runs}
+use Rattle.demand3.proofs.PartA.{part-a}
+use Rattle.demand3.proofs.PartB.{part-b}
+use Rattle.demand3.proofs.BeforeLaws.{damaged-cluster}
+use Rattle.demand3.proofs.demand_three.Statement.{statement}
+use Rattle.demand3.proofs.demand_three.Tie as tie
+
+returns : tie.Need-returns
+returns c = record {
+  uncut = uncut;
+  runs = runs;
+  always = λ N qs b₀ b list. part-a N list;
+  committed = λ N qs b₀ b H k e p s list. part-b N H k e p s list;
+  damaged = damaged-cluster;
+}
+
+pub demand-three-spec : {M : Type 1} → statement M
+demand-three-spec = tie.close (tie.spec returns)

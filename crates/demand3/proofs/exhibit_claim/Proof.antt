@@ -1,0 +1,25 @@
+-- The exhibit is computed.
+use Rattle.demand3.specs.Damaged.{five, payloadA, histories}
+use Rattle.demand3.proofs.PartA.{part-a}
+use Rattle.demand3.proofs.PartB.{part-b}
+use Rattle.demand3.proofs.ExampleComputed.{computed}
+use Rattle.demand3.proofs.ExampleSlots.{supposed}
+use Rattle.demand3.proofs.ExampleCalls.{played}
+use Rattle.demand3.proofs.exhibit_claim.Statement.{statement}
+use Rattle.demand3.proofs.exhibit_claim.Tie as tie
+
+returns : tie.Need-returns
+unfolding five
+returns c = record {
+  accepted = computed .go-first;
+  supposed = supposed;
+  played = played;
+  always = part-a five played;
+  committed = part-b five histories 0 2 payloadA supposed played;
+  spentRun = computed .spent-run;
+  lastRun = computed .last-run;
+  wholeRun = computed .whole-run;
+}
+
+pub exhibit-claim-spec : {M : Type 1} → statement M
+exhibit-claim-spec = tie.close (tie.spec returns)

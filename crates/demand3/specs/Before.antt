@@ -1,0 +1,75 @@
+-- A cluster before the damage, in document 01's words, and what damage makes of it.
+use Prim.Native.Nat.{ℕ, _≤_, _<_}
+use mathlib.Core.Path.{_≡_}
+use mathlib.Core.Bool.{Bool, true, false, cond}
+use mathlib.Core.List.{[]}
+use Rattle.search.specs.Search.{count}
+use Rattle.slices.specs.Parts.{Bytes}
+use Rattle.record.specs.Meaning.{Header, improper, Record, good, blank, bad, Entry, intact, broken}
+use Rattle.image.specs.Image.{Image}
+use Rattle.image.specs.Cluster.{Cluster}
+use Rattle.image.specs.View.{logLength, epochAt}
+use Rattle.image.specs.Verdict.{verdictAt}
+use Rattle.planner.specs.Setting.{Setting}
+use Rattle.planner.specs.Rules.{majority}
+use Rattle.demand3.specs.Supposed.{History, Agree, held, committed}
+
+-- what was in flight on a replica at the power failure: which slots, and the payload that was being written to each
+pub record Flight : Type 0 where
+  pub inFlight : ℕ → Bool
+  pub payload : ℕ → Bytes
+
+-- the entry is not intact with epoch e
+abbrev pub NotIntact : ℕ → Entry → Type 0
+NotIntact e x = (q : Bytes) → x ≡ intact e q → ⊥
+
+-- a used slot in flight: its record is there with its entry, or without
+pub data FlightSlot (p : Bytes) : Record → Entry → Type 0 where
+  arrived : {e : ℕ} → FlightSlot p (good e) (intact e p)
+  recordAlone : {e : ℕ} {x : Entry} → NotIntact e x → FlightSlot p (good e) x
+
+-- before the damage: every used slot that was not in flight had verdict 1 (01's stored); no used slot after a blank record
+pub record Before (m : ℕ) (f : Flight) (i : Image) : Type 0 where
+  pub stored : (k : ℕ) → k < logLength m i → f .inFlight k ≡ false → verdictAt m i k ≡ 1
+  pub flying : (k : ℕ) → k < logLength m i → f .inFlight k ≡ true → FlightSlot (f .payload k) (i .records k) (i .entries k)
+  pub behind : (k : ℕ) → logLength m i ≤ k → k < m → i .records k ≡ blank
+
+-- what damage makes of a slot's record and entry. A record that stands without its entry counts as a damaged entry, so it is kept
+pub data SlotDamage : Record → Entry → Record → Entry → Type 0 where
+  spared : {r : Record} {x : Entry} → SlotDamage r x r x
+  -- the record of a used slot, into something neither blank nor good
+  recordDamaged : {e : ℕ} {p b : Bytes} → SlotDamage (good e) (intact e p) (bad b) (intact e p)
+  -- the entry, into one that is not intact with its record's epoch
+  entryDamaged : {e : ℕ} {x y : Entry} → NotIntact e y → SlotDamage (good e) x (good e) y
+  -- the entry of an unused slot, into anything
+  unusedDamaged : {x y : Entry} → SlotDamage blank x blank y
+
+-- a header, into one that is refused by 4
+pub data HeaderDamage : Header → Header → Type 0 where
+  headerSpared : {h : Header} → HeaderDamage h h
+  headerRefused : {h : Header} {b : Bytes} → HeaderDamage h (improper b)
+
+pub record Damage (m : ℕ) (i j : Image) : Type 0 where
+  pub header : HeaderDamage (i .header) (j .header)
+  pub slots : (k : ℕ) → k < m → SlotDamage (i .records k) (i .entries k) (j .records k) (j .entries k)
+
+unfoldable pub payloadIn : Entry → Bytes
+payloadIn (intact e p) = p
+payloadIn (broken b) = []
+
+-- the log that a replica held, what was in flight included
+unfoldable pub historyOf : ℕ → Flight → Image → History
+historyOf m f i = record {
+  length = logLength m i;
+  epoch = epochAt i;
+  payload = λ k. cond (f .inFlight k) (f .payload k) (payloadIn (i .entries k));
+  inFlight = f .inFlight;
+}
+
+-- cluster F before the damage, with f in flight, became G: what demand 3 supposes of payload p at slot k under epoch e
+pub record DamagedCluster (S : Setting) (F : Cluster) (f : ℕ → Flight) (G : Cluster) (k e : ℕ) (p : Bytes) : Type 0 where
+  pub before : (c : ℕ) → c < S .n → Before (S .m) (f c) (F c)
+  pub damage : (c : ℕ) → c < S .n → Damage (S .m) (F c) (G c)
+  pub agree : Agree (S .n) (λ c. historyOf (S .m) (f c) (F c))
+  pub onMajority : majority (S .n) ≤ count (λ c. committed k e p (historyOf (S .m) (f c) (F c))) (S .n)
+  pub leaderHeld : held k e (historyOf (S .m) (f (S .leader)) (F (S .leader))) ≡ true

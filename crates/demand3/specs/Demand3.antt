@@ -1,0 +1,24 @@
+-- Demand 3, whole: one statement about every list of planner, step and run calls.
+use Prim.Native.Nat.{ℕ}
+use mathlib.Core.List.{List}
+use Rattle.slices.specs.Parts.{Bytes}
+use Rattle.image.specs.Cluster.{Cluster, decode}
+use Rattle.planner.specs.Setting.{Setting}
+use Rattle.demand3.specs.Supposed.{History, Supposed}
+use Rattle.demand3.specs.Before.{Flight, historyOf, DamagedCluster}
+use Rattle.demand3.specs.CallList.{Request, CallList}
+use Rattle.protocol.specs.Call.{Numbers, named}
+use Rattle.demand3.specs.Claim.{Uncut, Runs, PartA, PartB}
+
+pub record Demand3 : Type 0 where
+  -- from every cluster: what an uncut call leaves, and how runs count and end
+  pub uncut : (N : Numbers) (b : Bytes) → Uncut N b
+  pub runs : (N : Numbers) (b : Bytes) → Runs N b
+  -- part A: every cluster and every list, nothing supposed
+  pub always : (N : Numbers) (qs : List Request) (b₀ b : Bytes) → CallList N qs b₀ b → PartA N b₀ b
+  -- part B: a payload that stood committed on a majority, over histories
+  pub committed : (N : Numbers) (qs : List Request) (b₀ b : Bytes) (H : ℕ → History) (k e : ℕ) (p : Bytes)
+      → Supposed (named N) (decode (N .n) (N .m) b₀) H k e p → CallList N qs b₀ b → PartB N b₀ H k e p b
+  -- a cluster before the damage, damaged as document 01 says, gives such histories
+  pub damaged : (S : Setting) (F : Cluster) (f : ℕ → Flight) (G : Cluster) (k e : ℕ) (p : Bytes)
+      → DamagedCluster S F f G k e p → Supposed S G (λ c. historyOf (S .m) (f c) (F c)) k e p

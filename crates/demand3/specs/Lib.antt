@@ -1,0 +1,9 @@
+-- Demand 3: what it supposes, what the power may do, what holds after every list of calls, and an example.
+pub mod Interrupted
+pub mod CallList
+pub mod Supposed
+pub mod Before
+pub mod Claim
+pub mod Demand3
+pub mod Damaged
+pub mod Played

@@ -1,0 +1,73 @@
+-- The claim of demand 3 is about something: all that it supposes holds of a damaged cluster, and a list of calls among power failures is played from it.
+use Prim.Native.Nat.{_+_}
+use mathlib.Core.Path.{_≡_}
+use mathlib.Core.List.{List, [], _∷_}
+use Rattle.slices.specs.Parts.{Bytes, spliced}
+use Rattle.image.specs.Image.{entryAt}
+use Rattle.image.specs.Cluster.{imageAt, decode}
+use Rattle.planner.specs.Plan.{clusterRefusal}
+use Rattle.protocol.specs.Store.{storeEntry, storeBlank}
+use Rattle.protocol.specs.StepBytes.{stepsBytes, afterStoreBytes}
+use Rattle.demand3.specs.Supposed.{Supposed}
+use Rattle.protocol.specs.Call.{Call, plan, step, run, named}
+use Rattle.demand3.specs.CallList.{Request, CallList}
+use Rattle.demand3.specs.Claim.{PartA, PartB}
+use Rattle.protocol.specs.CallResult.{callResult, recovered, spent}
+use Rattle.demand3.specs.Damaged.{five, payloadA, noise, damagedCluster, histories}
+
+-- the clusters on the way: a record blanked, noise in the leader's first entry, that entry fetched, two stores more, then all but the last
+-- and the last
+unfoldable pub blankedOne : Bytes
+blankedOne = afterStoreBytes 3 (storeBlank 0 2) damagedCluster
+
+unfoldable pub tornOne : Bytes
+tornOne = spliced blankedOne (imageAt 3 0 + entryAt 3 0) noise
+
+unfoldable pub fetchedOne : Bytes
+fetchedOne = stepsBytes (named five) 1 tornOne
+
+unfoldable pub twoMore : Bytes
+twoMore = stepsBytes (named five) 2 fetchedOne
+
+unfoldable pub lastStored : Bytes
+lastStored = afterStoreBytes 3 (storeEntry 3 1 0) (stepsBytes (named five) 3 twoMore)
+
+unfoldable pub lastCluster : Bytes
+lastCluster = stepsBytes (named five) 45 lastStored
+
+-- a call with the numbers of the five
+abbrev pub asked : Call → Request
+asked q = record { numbers = five; call = q }
+
+-- planned; refused by 1, 2, 3, 11, 12 and 13; a run cut off before its first store, a step after its store, a step during one; a whole
+-- step; a step whose record stays old; a run that is spent; a run cut off after its last store; a whole run
+unfoldable pub calls : List Request
+calls =
+    asked (plan 3 5)
+    ∷ record { numbers = record { n = 5; m = 0; leader = 1; present = 31 }; call = run 9 }
+    ∷ record { numbers = record { n = 4; m = 3; leader = 1; present = 15 }; call = step }
+    ∷ record { numbers = record { n = 5; m = 2; leader = 1; present = 31 }; call = step }
+    ∷ record { numbers = record { n = 5; m = 3; leader = 1; present = 63 }; call = step }
+    ∷ record { numbers = record { n = 5; m = 3; leader = 5; present = 31 }; call = step }
+    ∷ asked (plan 2 5)
+    ∷ asked (run 100)
+    ∷ asked step
+    ∷ asked step
+    ∷ asked step
+    ∷ asked step
+    ∷ asked (run 2)
+    ∷ asked (run 45)
+    ∷ asked (run 45)
+    ∷ []
+
+pub record Exhibit : Type 0 where
+  pub accepted : clusterRefusal 5 3 1 31 damagedCluster ≡ 0
+  pub supposed : Supposed (named five) (decode 5 3 damagedCluster) histories 0 2 payloadA
+  pub played : CallList five calls damagedCluster lastCluster
+  -- so what the claim concludes holds of it
+  pub always : PartA five damagedCluster lastCluster
+  pub committed : PartB five damagedCluster histories 0 2 payloadA lastCluster
+  -- the run of two is spent, the last one finds nothing to do, and from the damaged cluster a run makes eight stores
+  pub spentRun : callResult five (run 2) fetchedOne ≡ spent 2
+  pub lastRun : callResult five (run 45) lastStored ≡ recovered 0
+  pub wholeRun : callResult five (run 45) damagedCluster ≡ recovered 8

@@ -1,0 +1,13 @@
+// Demand 3: every list of plans, steps and runs with power failures anywhere.
+ghost use Rattle.demand3.specs.Demand3.{Demand3};
+ghost use Rattle.demand3.specs.Played.{Exhibit};
+
+// The claim. The function does nothing; its contract is the theorem.
+pub fn demand_three()
+    ensures { λ _. ⌜ Demand3 ⌝ }
+{}
+
+// The claim is about something: a damaged cluster meets what is supposed, and a list of calls is played from it.
+pub fn exhibit_claim()
+    ensures { λ _. ⌜ Exhibit ⌝ }
+{}

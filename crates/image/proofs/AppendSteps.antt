@@ -1,0 +1,178 @@
+-- Formatting and appending, test by test: which refusal it is, and what is answered and left then.
+use Prim.Native.Nat.{ℕ, _+_, _-_, _*_, _≤_, _<_}
+use mathlib.Core.Path.{_≡_, refl, sym, ap, _∙_}
+use mathlib.Core.Bool.{cond, _||_}
+use mathlib.Core.List.{List, _++_}
+use native.Mathlib.Omega.{arith}
+use native.Mathlib.Numerals.{add-one}
+use native.Mathlib.Decide.{ℕ-discrete}
+use lib.Dec.{eqb, leb, ltb}
+use lib.ListN.{length, getD, length-append}
+use borrow.Author.Tests.{eq-eqb, ne-eqb, lt-ltb, le-ltb, le-leb, lt-leb}
+use Rattle.search.specs.Search.{joined}
+use Rattle.slices.specs.Parts.{Bytes, spliced}
+use Rattle.slices.proofs.SpliceLaws.{length-spliced}
+use Rattle.record.specs.Layout.{headerBytes, recordBytes, blankRecord, entryBytes, freshEntry}
+use Rattle.record.proofs.LayoutLaws.{length-header, length-entry}
+use Rattle.record.proofs.WriteLaws.{start, then, whole}
+use Rattle.image.specs.declared.FormatAnswer.the-variants as format
+use Rattle.image.specs.declared.AppendAnswer.the-variants as append
+use Rattle.image.specs.Refusal.{refuse, _else_}
+use Rattle.image.specs.Image.{Image, imageSize, recordAt, entryAt, decodeImage, freshImage}
+use Rattle.image.specs.View.{epochAt, logLength, callRefusal, imageRefusal, readRefusal}
+use Rattle.image.specs.Seen.{Seen}
+use Rattle.image.specs.Append.{lastEpoch, appendRefusal, stored, appended, formatted}
+use Rattle.image.specs.Answers.{formatAnswer, appendAnswer}
+use Rattle.image.proofs.RefusalLaws.{else-next, else-first}
+use Rattle.image.proofs.CallLaws.{slots-high, called-slots, called-size}
+use Rattle.image.proofs.ViewLaws.{length-le}
+use Rattle.image.proofs.ScanLaws.{taken-at}
+use Rattle.image.proofs.DecodeLaws.{size-is, record-fits, entry-fits}
+use Rattle.image.proofs.AcceptLaws.{accepts-elim}
+use Rattle.image.proofs.FreshLaws.{length-records, length-entries, length-fresh-image}
+
+-- ---- formatting
+
+module _ (c n m : ℕ) (b : Bytes) {r : ℕ} (is : r ≡ callRefusal c n m (length b)) where
+  pub format-refused : ¬ (r ≡ 0) → (format.Refused r ≡ formatAnswer (callRefusal c n m (length b))) × (b ≡ formatted c n m b)
+  unfolding formatAnswer formatted
+  format-refused h = let off = ne-eqb r 0 h in (sym (rw (← is, off)), sym (rw (← is, off)))
+
+  module _ (free : r ≡ 0) where
+    pub format-few : m ≤ 64
+    format-few = slots-high m (called-slots c n m (length b) (sym is ∙ free))
+
+    pub format-size : length b ≡ 28 + 34 * m + 240 * m
+    format-size = called-size c n m (length b) (sym is ∙ free) ∙ size-is m
+
+    pub headed-size : {x : Bytes} → x ≡ spliced b 0 (headerBytes c n m) → length x ≡ 28 + 34 * m + 240 * m
+    headed-size p = ap length p ∙ length-spliced b 0 (headerBytes c n m) (omega (arith, length-header c n m, format-size)) ∙ format-size
+
+    pub blanked-size : {x y : Bytes} → x ≡ spliced b 0 (headerBytes c n m) → y ≡ spliced x 28 (joined m (λ k. blankRecord)) → length y ≡ 28 + 34 * m + 240 * m
+    blanked-size {x} p q = ap length q ∙ length-spliced x 28 (joined m (λ k. blankRecord)) (omega (arith, length-records m, headed-size p)) ∙ headed-size p
+
+  pub format-done : r ≡ 0 → {x y z : Bytes} → x ≡ spliced b 0 (headerBytes c n m) → y ≡ spliced x 28 (joined m (λ k. blankRecord))
+      → z ≡ spliced y (28 + 34 * m) (joined m (λ k. freshEntry)) → (format.Formatted ≡ formatAnswer (callRefusal c n m (length b))) × (z ≡ formatted c n m b)
+  unfolding formatAnswer formatted
+  format-done h {x} {y} {z} p q s = (sym (rw (← is, h)), made ∙ sym (rw (← is, h)))
+    where
+      head : length (headerBytes c n m) ≡ 28
+      head = length-header c n m
+
+      records : length (headerBytes c n m ++ joined m (λ k. blankRecord)) ≡ 28 + 34 * m
+      records = length-append (headerBytes c n m) (joined m (λ k. blankRecord)) ∙ omega (arith, head, length-records m)
+
+      made : z ≡ freshImage c n m
+      made =
+          unfold freshImage in
+          (let x = then (28 + 34 * m + 240 * m) 0 (headerBytes c n m) (start _ b (format-size h)) refl (omega (arith, head)) p in
+          let y = then (28 + 34 * m + 240 * m) 28 (joined m (λ k. blankRecord)) x head (omega (arith, length-records m)) q in
+          let z = then (28 + 34 * m + 240 * m) (28 + 34 * m) (joined m (λ k. freshEntry)) y records (omega (arith, length-entries m)) s in
+          whole z (length-fresh-image c n m ∙ size-is m))
+
+-- ---- appending: refusals 8 to 10
+
+module _ (last len m e size : ℕ) where
+  abbrev denial : ℕ
+  denial = refuse 8 (eqb e 0 || ltb e last) else refuse 9 (ltb 200 size) else refuse 10 (leb m len)
+
+  pub deny-zero : e ≡ 0 → 8 ≡ denial
+  unfolding refuse _else_
+  deny-zero h = sym (rw (eq-eqb e 0 h))
+
+  module _ (p : ¬ (e ≡ 0)) where
+    pub deny-lower : e < last → 8 ≡ denial
+    unfolding refuse _else_
+    deny-lower h = sym (rw (ne-eqb e 0 p, lt-ltb e last h))
+
+    module _ (q : last ≤ e) where
+      pub deny-long : 200 < size → 9 ≡ denial
+      unfolding refuse _else_
+      deny-long h = sym (rw (ne-eqb e 0 p, le-ltb e last q, lt-ltb 200 size h))
+
+      module _ (s : size ≤ 200) where
+        pub deny-full : m ≤ len → 10 ≡ denial
+        unfolding refuse _else_
+        deny-full h = sym (rw (ne-eqb e 0 p, le-ltb e last q, le-ltb 200 size s, le-leb m len h))
+
+        pub deny-none : len < m → 0 ≡ denial
+        unfolding refuse _else_
+        deny-none h = sym (rw (ne-eqb e 0 p, le-ltb e last q, le-ltb 200 size s, lt-leb m len h))
+
+-- the last epoch as the scan has it
+pub last-seen : (m : ℕ) (i : Image) {len : ℕ} {cs es : List ℕ} → Seen m i len cs es → cond (eqb len 0) 0 (getD es (len - 1) 0) ≡ lastEpoch m i
+unfolding lastEpoch
+last-seen m i {len} {es = es} s = rw (← s .length-is) (go (ℕ-discrete len 0))
+  where
+    go : Dec (len ≡ 0) → cond (eqb len 0) 0 (getD es (len - 1) 0) ≡ cond (eqb len 0) 0 (epochAt i (len - 1))
+    go (yes q) = rw (eq-eqb len 0 q)
+    go (no q) =
+        let h : len - 1 < m = omega (arith, s .length-is, length-le m i) in
+        rw (ne-eqb len 0 q) (taken-at m (epochAt i) es (s .epochs-are) (len - 1) h)
+
+-- ---- appending: which refusal it is
+
+module _ (c n m : ℕ) (b : Bytes) (e size : ℕ) {r : ℕ} (call : r ≡ callRefusal c n m (length b)) where
+  pub refused-call : ¬ (r ≡ 0) → appendRefusal c n m b e size ≡ r
+  unfolding appendRefusal readRefusal
+  refused-call h =
+      let z : callRefusal c n m (length b) ≡ r = sym call in
+      let w = else-first (callRefusal c n m (length b)) (imageRefusal m (decodeImage c n m b)) (λ q. h (call ∙ q)) in
+      else-first _ _ (λ q. h (call ∙ sym w ∙ q)) ∙ w ∙ z
+
+  module _ (free : r ≡ 0) {v : ℕ} (image : v ≡ imageRefusal m (decodeImage c n m b)) where
+    reading : readRefusal c n m b ≡ v
+    unfolding readRefusal
+    reading = else-next _ (sym call ∙ free) ∙ sym image
+
+    pub refused-image : ¬ (v ≡ 0) → appendRefusal c n m b e size ≡ v
+    unfolding appendRefusal
+    refused-image h = else-first _ _ (λ q. h (sym reading ∙ q)) ∙ reading
+
+    pub refused-append : {len last d : ℕ} {cs es : List ℕ} → v ≡ 0 → Seen m (decodeImage c n m b) len cs es → last ≡ cond (eqb len 0) 0 (getD es (len - 1) 0)
+        → d ≡ (refuse 8 (eqb e 0 || ltb e last) else refuse 9 (ltb 200 size) else refuse 10 (leb m len)) → appendRefusal c n m b e size ≡ d
+    unfolding appendRefusal
+    refused-append h s l k = else-next _ (reading ∙ h) ∙ sym (rw (l ∙ last-seen m (decodeImage c n m b) s, s .length-is) at k)
+
+    -- an append that goes on
+    module _ {len : ℕ} {cs es : List ℕ} (readable : v ≡ 0) (s : Seen m (decodeImage c n m b) len cs es) where
+      pub used-few : len ≤ 64
+      used-few = omega (arith, s .length-is, length-le m (decodeImage c n m b), slots-high m (called-slots c n m (length b) (sym call ∙ free)))
+
+      pub slot-free : {last d : ℕ} → last ≡ cond (eqb len 0) 0 (getD es (len - 1) 0)
+          → d ≡ (refuse 8 (eqb e 0 || ltb e last) else refuse 9 (ltb 200 size) else refuse 10 (leb m len)) → d ≡ 0
+          → (m ≤ 64) × (len < m) × (length b ≡ imageSize m) × (size ≤ 200)
+      slot-free l k z =
+          let a = accepts-elim c n m b e size (refused-append readable s l k ∙ z) in
+          (slots-high m (called-slots c n m (length b) (sym call ∙ free)), omega (arith, s .length-is, a .room), called-size c n m (length b) (sym call ∙ free), a .short)
+
+-- ---- appending: the slot
+
+module _ (m k : ℕ) (b : Bytes) (km : k < m) (size : length b ≡ imageSize m) where
+  pub entry-room : 28 + 34 * m + 240 * k + 240 ≤ length b
+  unfolding entryAt
+  entry-room = omega (arith, entry-fits m k km)
+
+  module _ (e : ℕ) (p : Bytes) (short : length p ≤ 200) {x : Bytes} (q : x ≡ spliced b (28 + 34 * m + 240 * k) (entryBytes e (k + 1) p)) where
+    pub record-room : 28 + 34 * k + 34 ≤ length x
+    unfolding recordAt
+    record-room =
+        let l = length-spliced b (28 + 34 * m + 240 * k) (entryBytes e (k + 1) p) (omega (arith, length-entry e (k + 1) p short, entry-room)) in
+        omega (arith, ap length q, l, record-fits m k km)
+
+    pub slot-stored : {y : Bytes} → y ≡ spliced x (28 + 34 * k) (recordBytes e (k + 1)) → y ≡ stored m b k e p
+    unfolding stored recordAt entryAt
+    slot-stored r = rw (r, q, add-one)
+
+-- ---- appending: what is answered and left
+
+module _ (c n m : ℕ) (b : Bytes) (e : ℕ) (p : Bytes) {r : ℕ} (is : appendRefusal c n m b e (length p) ≡ r) where
+  pub append-refused : ¬ (r ≡ 0)
+      → (append.Refused r ≡ appendAnswer (appendRefusal c n m b e (length p)) (logLength m (decodeImage c n m b))) × (b ≡ appended c n m b e p)
+  unfolding appendAnswer appended
+  append-refused h = let off = ne-eqb r 0 h in (sym (rw (is, off)), sym (rw (is, off)))
+
+  pub append-done : r ≡ 0 → {k : ℕ} {d : Bytes} → k ≡ logLength m (decodeImage c n m b) → d ≡ stored m b k e p
+      → (append.Slot (k + 1) ≡ appendAnswer (appendRefusal c n m b e (length p)) (logLength m (decodeImage c n m b))) × (d ≡ appended c n m b e p)
+  unfolding appendAnswer appended
+  append-done h q s = (sym (rw (is, h, ← q, add-one)), rw (is, h, ← q) s)

@@ -1,0 +1,21 @@
+-- Laws that the proofs of this crate, and of the crates above it, cite.
+pub mod RefusalLaws
+pub mod CallLaws
+pub mod ViewLaws
+pub mod ScanLaws
+pub mod SlotLaws
+pub mod SeenLaws
+pub mod StoreLaws
+pub mod VerdictLaws
+pub mod VerdictSteps
+pub mod ReadLaws
+pub mod DecodeLaws
+pub mod ClusterLaws
+pub mod EncodeLaws
+pub mod FreshLaws
+pub mod AddedLaws
+pub mod AcceptLaws
+pub mod AppendLaws
+pub mod AppendListLaws
+pub mod PutLaws
+pub mod AppendSteps

@@ -1,0 +1,223 @@
+-- What the scan works out of its two arrays: the loops over them, and that it is what View.antt says of the image.
+use Prim.Native.Nat.{ℕ, suc, _+_, _≤_, _<_}
+use mathlib.Core.Path.{_≡_, refl, sym, ap, _∙_}
+use mathlib.Core.Bool.{Bool, true, false, cond, not, _||_}
+use mathlib.Core.List.{List}
+use native.Mathlib.Omega.{arith}
+use native.Mathlib.Decide.{decLt}
+use native.Mathlib.Numerals.{add-one}
+use lib.Dec.{eqb, leb, ltb}
+use lib.ListN.{getD, take}
+use lib.Seq.{getD-take}
+use borrow.Author.Tests.{eq-eqb, ne-eqb, lt-ltb, le-ltb, le-leb, lt-leb}
+use Rattle.search.specs.Search.{all, listed}
+use Rattle.search.proofs.SearchLaws.{lowest-is, lowest-le, lowest-cong, all-elim, all-intro, all-off, all-suc, all-cong}
+use Rattle.search.proofs.ListedLaws.{getD-listed}
+use Rattle.record.specs.Meaning.{Record, good, blank, bad, Entry, intact, broken}
+use Rattle.image.specs.Refusal.{refuse, _else_}
+use Rattle.image.specs.Image.{Image}
+use Rattle.image.specs.View.{Condition, Unused, Whole, RecordLost, Faulty, Lost, condition, conditionAt, epochAt, isBlank, isLost, logLength, noGap, noneLost, rising}
+use Rattle.image.specs.Seen.{conditionNumber, conditionsOf}
+use Rattle.image.specs.Scan.{Scanned, lengthIn, noGapIn, noneLostIn, risingIn, scanRefusal}
+use Rattle.image.proofs.ViewLaws.{length-le}
+
+-- ---- a loop over `all`
+
+module _ (p : ℕ → Bool) where
+  pub all-more : (k : ℕ) → all p k ≡ true → p k ≡ true → all p (k + 1) ≡ true
+  all-more k a h = rw (add-one, all-suc, h) a
+
+  pub all-found : (m k : ℕ) → k < m → p k ≡ false → true ≡ not (all p m)
+  all-found m k h e = sym (rw (all-off p m k h e))
+
+  pub all-none : (m k : ℕ) → k ≤ m → all p k ≡ true → ((j : ℕ) → k ≤ j → j < m → p j ≡ true) → false ≡ not (all p m)
+  all-none m k h a t = sym (rw (all-intro p m (λ j l. go j l (decLt j k))))
+    where
+      go : (j : ℕ) → j < m → Dec (j < k) → p j ≡ true
+      go j l (yes b) = all-elim p k a j b
+      go j l (no b) = t j (omega arith) l
+
+-- ---- the log's length
+
+module _ (cs : List ℕ) (m : ℕ) where
+  pub length-found : (k : ℕ) → k < m → ((j : ℕ) → j < k → getD cs j 0 ≡ 0 → ⊥) → getD cs k 0 ≡ 0 → k ≡ lengthIn m cs
+  unfolding lengthIn
+  length-found k h f e =
+      sym (lowest-is (λ k. eqb (getD cs k 0) 0) m k (omega arith) (λ j l. ne-eqb (getD cs j 0) 0 (f j l)) (λ l. eq-eqb (getD cs k 0) 0 e))
+
+  pub length-end : (k : ℕ) → k ≡ m → ((j : ℕ) → j < k → getD cs j 0 ≡ 0 → ⊥) → k ≡ lengthIn m cs
+  unfolding lengthIn
+  length-end k h f =
+      sym (lowest-is (λ k. eqb (getD cs k 0) 0) m k (omega arith) (λ j l. ne-eqb (getD cs j 0) 0 (f j l)) (λ l. absurd (omega arith)))
+
+  pub length-within : {len : ℕ} → len ≡ lengthIn m cs → len ≤ m
+  unfolding lengthIn
+  length-within e = rw e (lowest-le (λ k. eqb (getD cs k 0) 0) m)
+
+-- ---- refusal 5
+
+or-on : (b : Bool) → b || true ≡ true
+or-on true = refl
+or-on false = refl
+
+module _ (len : ℕ) (cs : List ℕ) where
+  abbrev p5 : ℕ → Bool
+  p5 k = ltb k len || eqb (getD cs k 0) 0
+
+  pub gap-start : noGapIn len len cs ≡ true
+  unfolding noGapIn
+  gap-start = all-intro p5 len (λ k h. rw (lt-ltb k len h))
+
+  pub gap-more : (k : ℕ) → noGapIn k len cs ≡ true → getD cs k 0 ≡ 0 → noGapIn (k + 1) len cs ≡ true
+  unfolding noGapIn
+  gap-more k a e = all-more p5 k a (rw (eq-eqb (getD cs k 0) 0 e) (or-on (ltb k len)))
+
+  pub gap-found : (m k : ℕ) → k < m → len ≤ k → ¬ (getD cs k 0 ≡ 0) → true ≡ not (noGapIn m len cs)
+  unfolding noGapIn
+  gap-found m k h l e = all-found p5 m k h (rw (le-ltb k len l, ne-eqb (getD cs k 0) 0 e))
+
+  pub gap-none : (m k : ℕ) → k ≡ m → noGapIn k len cs ≡ true → false ≡ not (noGapIn m len cs)
+  unfolding noGapIn
+  gap-none m k h a = all-none p5 m k (omega arith) a (λ j l b. absurd (omega arith))
+
+-- ---- refusal 6
+
+module _ (cs : List ℕ) where
+  abbrev p6 : ℕ → Bool
+  p6 k = not (eqb (getD cs k 0) 4)
+
+  pub lost-start : noneLostIn 0 cs ≡ true
+  unfolding noneLostIn
+  lost-start = all-intro p6 0 (λ k h. absurd (omega arith))
+
+  pub lost-more : (k : ℕ) → noneLostIn k cs ≡ true → ¬ (getD cs k 0 ≡ 4) → noneLostIn (k + 1) cs ≡ true
+  unfolding noneLostIn
+  lost-more k a e = all-more p6 k a (rw (ne-eqb (getD cs k 0) 4 e))
+
+  pub lost-found : (m k : ℕ) → k < m → getD cs k 0 ≡ 4 → true ≡ not (noneLostIn m cs)
+  unfolding noneLostIn
+  lost-found m k h e = all-found p6 m k h (rw (eq-eqb (getD cs k 0) 4 e))
+
+  pub lost-none : (m k : ℕ) → k ≡ m → noneLostIn k cs ≡ true → false ≡ not (noneLostIn m cs)
+  unfolding noneLostIn
+  lost-none m k h a = all-none p6 m k (omega arith) a (λ j l b. absurd (omega arith))
+
+-- ---- refusal 7
+
+module _ (len : ℕ) (es : List ℕ) where
+  abbrev p7 : ℕ → Bool
+  p7 k = not (ltb (suc k) len) || leb (getD es k 0) (getD es (suc k) 0)
+
+  pub falls-start : risingIn 0 len es ≡ true
+  unfolding risingIn
+  falls-start = all-intro p7 0 (λ k h. absurd (omega arith))
+
+  pub falls-more : (k : ℕ) → risingIn k len es ≡ true → getD es k 0 ≤ getD es (k + 1) 0 → risingIn (k + 1) len es ≡ true
+  unfolding risingIn
+  falls-more k a e =
+      let f : getD es k 0 ≤ getD es (suc k) 0 = rw add-one at e in
+      all-more p7 k a (rw (le-leb (getD es k 0) (getD es (suc k) 0) f) (or-on (not (ltb (suc k) len))))
+
+  pub falls-found : (m k : ℕ) → k + 1 < len → len ≤ m → getD es (k + 1) 0 < getD es k 0 → true ≡ not (risingIn m len es)
+  unfolding risingIn
+  falls-found m k h l e =
+      let f : getD es (suc k) 0 < getD es k 0 = rw add-one at e in
+      all-found p7 m k (omega arith) (rw (lt-ltb (suc k) len (omega arith), lt-leb (getD es k 0) (getD es (suc k) 0) f))
+
+  pub falls-none : (m k : ℕ) → k ≤ m → len ≤ k + 1 → risingIn k len es ≡ true → false ≡ not (risingIn m len es)
+  unfolding risingIn
+  falls-none m k h l a = all-none p7 m k h a (λ j b c. rw (le-ltb (suc j) len (omega arith)))
+
+-- ---- refusals 5 to 7
+
+module _ (m len : ℕ) (cs es : List ℕ) where
+  pub scan-gap : not (noGapIn m len cs) ≡ true → 5 ≡ scanRefusal m len cs es
+  unfolding scanRefusal refuse _else_
+  scan-gap h = sym (rw h)
+
+  module _ (gap : not (noGapIn m len cs) ≡ false) where
+    pub scan-lost : not (noneLostIn m cs) ≡ true → 6 ≡ scanRefusal m len cs es
+    unfolding scanRefusal refuse _else_
+    scan-lost h = sym (rw (gap, h))
+
+    module _ (lost : not (noneLostIn m cs) ≡ false) where
+      pub scan-falls : not (risingIn m len es) ≡ true → 7 ≡ scanRefusal m len cs es
+      unfolding scanRefusal refuse _else_
+      scan-falls h = sym (rw (gap, lost, h))
+
+      pub scan-none : not (risingIn m len es) ≡ false → 0 ≡ scanRefusal m len cs es
+      unfolding scanRefusal refuse _else_
+      scan-none h = sym (rw (gap, lost, h))
+
+-- ---- conditions by number
+
+pub blank-number : (r : Record) (x : Entry) → isBlank r ≡ eqb (conditionNumber (condition r x)) 0
+unfolding isBlank condition
+blank-number (good e) (intact f p) = go (eqb e f)
+  where
+    go : (t : Bool) → false ≡ eqb (conditionNumber (cond t Whole Faulty)) 0
+    go true = refl
+    go false = refl
+blank-number (good e) (broken b) = refl
+blank-number blank x = refl
+blank-number (bad b) (intact e p) = refl
+blank-number (bad b) (broken d) = refl
+
+pub lost-number : (a : Condition) → isLost a ≡ eqb (conditionNumber a) 4
+unfolding isLost
+lost-number Unused = refl
+lost-number Whole = refl
+lost-number RecordLost = refl
+lost-number Faulty = refl
+lost-number Lost = refl
+
+pub number-le : (a : Condition) → conditionNumber a ≤ 4
+number-le Unused = omega arith
+number-le Whole = omega arith
+number-le RecordLost = omega arith
+number-le Faulty = omega arith
+number-le Lost = omega arith
+
+-- ---- the image that was scanned
+
+-- an element of a list of which the first m are known
+pub taken-at : (m : ℕ) (f : ℕ → ℕ) (l : List ℕ) → take m l ≡ listed m f → (k : ℕ) → k < m → getD l k 0 ≡ f k
+taken-at m f l e k h = sym (getD-take m l k 0 h) ∙ ap (λ (z : List ℕ). getD z k 0) e ∙ getD-listed m f k 0 h
+
+module _ (m : ℕ) (i : Image) (cs es : List ℕ) (s : Scanned m i cs es) where
+  condition-here : (k : ℕ) → k < m → getD cs k 0 ≡ conditionNumber (conditionAt i k)
+  unfolding conditionsOf
+  condition-here = taken-at m (λ k. conditionNumber (conditionAt i k)) cs (s .conditions-are)
+
+  epoch-here : (k : ℕ) → k < m → getD es k 0 ≡ epochAt i k
+  epoch-here = taken-at m (epochAt i) es (s .epochs-are)
+
+  blank-here : (k : ℕ) → k < m → eqb (getD cs k 0) 0 ≡ isBlank (i .records k)
+  unfolding conditionAt
+  blank-here k h = sym (blank-number (i .records k) (i .entries k) ∙ rw (condition-here k h))
+
+  pub length-scanned : lengthIn m cs ≡ logLength m i
+  unfolding lengthIn logLength
+  length-scanned = lowest-cong _ _ m blank-here
+
+  pub gap-scanned : noGapIn m (logLength m i) cs ≡ noGap m i
+  unfolding noGapIn noGap
+  gap-scanned = all-cong _ _ m (λ k h. rw (blank-here k h))
+
+  pub lost-scanned : noneLostIn m cs ≡ noneLost m i
+  unfolding noneLostIn noneLost
+  lost-scanned = all-cong _ _ m (λ k h. rw (condition-here k h) (ap not (sym (lost-number (conditionAt i k)))))
+
+  pub rising-scanned : risingIn m (logLength m i) es ≡ rising m i
+  unfolding risingIn rising
+  rising-scanned = all-cong _ _ m (λ k h. go k h (decLt (suc k) (logLength m i)))
+    where
+      go : (k : ℕ) → k < m → Dec (suc k < logLength m i)
+          → (not (ltb (suc k) (logLength m i)) || leb (getD es k 0) (getD es (suc k) 0)) ≡ (not (ltb (suc k) (logLength m i)) || leb (epochAt i k) (epochAt i (suc k)))
+      go k h (yes l) = rw (epoch-here k h, epoch-here (suc k) (omega (arith, length-le m i)))
+      go k h (no l) = rw (le-ltb (suc k) (logLength m i) (omega arith))
+
+  pub refusal-scanned : (len : ℕ) → len ≡ logLength m i
+      → scanRefusal m len cs es ≡ (refuse 5 (not (noGap m i)) else refuse 6 (not (noneLost m i)) else refuse 7 (not (rising m i)))
+  unfolding scanRefusal
+  refusal-scanned len e = rw (e, gap-scanned, lost-scanned, rising-scanned)

@@ -1,0 +1,44 @@
+-- Document 01, "Reading one image": the answers of reading and of asking for a payload, and what the lent buffers hold then.
+use Prim.Native.Nat.{ℕ, suc, _+_, _-_}
+use mathlib.Core.Bool.{Bool, true, false, cond, not, _&&_, _||_}
+use mathlib.Core.List.{List, [], _∷_}
+use lib.Dec.{eqb, leb}
+use lib.ListN.{length}
+use Rattle.search.specs.Search.{listed}
+use Rattle.slices.specs.Parts.{Bytes, part}
+use Rattle.record.specs.Meaning.{Entry, intact, broken, entryPayload}
+use Rattle.image.specs.Refusal.{refuse, _else_}
+use Rattle.image.specs.Image.{Image, decodeImage, entryAt}
+use Rattle.image.specs.View.{readRefusal, logLength, epochAt, conditionAt, Condition, Unused, Whole, RecordLost, Faulty, Lost}
+use Rattle.image.specs.Verdict.{verdictAt}
+
+-- 13 if a lent buffer (epochs, verdicts) has the wrong length, after all else that applies
+unfoldable pub lentRefusal : ℕ → ℕ → ℕ → Bytes → ℕ → ℕ → ℕ
+lentRefusal c n m b epochs verdicts = readRefusal c n m b else refuse 13 (not (eqb epochs m && eqb verdicts m))
+
+unfoldable pub epochsOf : ℕ → Image → List ℕ
+epochsOf m i = listed m (epochAt i)
+
+unfoldable pub verdictsOf : ℕ → Image → List ℕ
+verdictsOf m i = listed m (verdictAt m i)
+
+-- verdicts 1 and 2
+unfoldable pub isWhole : Condition → Bool
+isWhole Unused = false
+isWhole Whole = true
+isWhole RecordLost = true
+isWhole Faulty = false
+isWhole Lost = false
+
+-- whether slot number s (from 1) has a payload
+unfoldable pub hasPayload : ℕ → Image → ℕ → Bool
+hasPayload m i s = leb 1 s && leb s m && isWhole (conditionAt i (s - 1))
+
+-- its part of the image, or the empty part
+unfoldable pub payloadOf : ℕ → ℕ → ℕ → Bytes → ℕ → Bytes
+payloadOf c n m b s =
+    cond (eqb (readRefusal c n m b) 0 && hasPayload m (decodeImage c n m b) s) (entryPayload (part b (entryAt m (s - 1)) 240)) []
+
+-- where that part begins in the image, 0 if there is no payload
+unfoldable pub payloadAt : ℕ → ℕ → ℕ → Bytes → ℕ → ℕ
+payloadAt c n m b s = cond (eqb (readRefusal c n m b) 0 && hasPayload m (decodeImage c n m b) s) (entryAt m (s - 1) + 26) 0

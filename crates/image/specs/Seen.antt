@@ -1,0 +1,25 @@
+-- What the scan of an image holds: document 01's conditions and epochs as numbers, one for each slot.
+use Prim.Native.Nat.{ℕ}
+use mathlib.Core.Path.{_≡_}
+use mathlib.Core.List.{List}
+use lib.ListN.{take}
+use Rattle.search.specs.Search.{listed}
+use Rattle.image.specs.Image.{Image}
+use Rattle.image.specs.View.{Condition, Unused, Whole, RecordLost, Faulty, Lost, conditionAt, epochAt, logLength, imageRefusal}
+
+abbrev pub conditionNumber : Condition → ℕ
+conditionNumber Unused = 0
+conditionNumber Whole = 1
+conditionNumber RecordLost = 2
+conditionNumber Faulty = 3
+conditionNumber Lost = 4
+
+-- the numbers of the first m slots
+unfoldable pub conditionsOf : ℕ → Image → List ℕ
+conditionsOf m i = listed m (λ k. conditionNumber (conditionAt i k))
+
+-- a scan of an image that is not refused
+pub record Seen (m : ℕ) (i : Image) (length : ℕ) (conditions epochs : List ℕ) : Type 0 where
+  pub length-is : length ≡ logLength m i
+  pub conditions-are : take m conditions ≡ conditionsOf m i
+  pub epochs-are : take m epochs ≡ listed m (epochAt i)

@@ -1,0 +1,108 @@
+-- Document 01, "Reading one image": what is seen of an image, and when it is refused.
+use Prim.Native.Nat.{ℕ, suc}
+use mathlib.Core.Bool.{Bool, true, false, cond, not, _&&_, _||_}
+use mathlib.Core.List.{List, [], _∷_}
+use lib.Dec.{eqb, leb, ltb}
+use lib.ListN.{length}
+use Rattle.search.specs.Search.{lowest, all}
+use Rattle.slices.specs.Parts.{Bytes}
+use Rattle.record.specs.Meaning.{Header, proper, improper, Record, good, blank, bad, Entry, intact, broken}
+use Rattle.image.specs.Refusal.{refuse, _else_}
+use Rattle.image.specs.Image.{Image, imageSize, decodeImage}
+
+-- a slot's condition, whatever its neighbours hold. `Lost` is refused by 6
+pub data Condition : Type 0 where
+  Unused Whole RecordLost Faulty Lost : Condition
+
+unfoldable pub condition : Record → Entry → Condition
+condition (good e) (intact f p) = cond (eqb e f) Whole Faulty
+condition (good e) (broken b) = Faulty
+condition blank x = Unused
+condition (bad b) (intact e p) = RecordLost
+condition (bad b) (broken d) = Lost
+
+-- a slot's epoch: its record's if good, else its entry's; 0 if unused
+unfoldable pub epochOf : Record → Entry → ℕ
+epochOf (good e) x = e
+epochOf blank x = 0
+epochOf (bad b) (intact e p) = e
+epochOf (bad b) (broken d) = 0
+
+unfoldable pub conditionAt : Image → ℕ → Condition
+conditionAt i k = condition (i .records k) (i .entries k)
+
+unfoldable pub epochAt : Image → ℕ → ℕ
+epochAt i k = epochOf (i .records k) (i .entries k)
+
+-- a slot with a record that is not blank is used
+unfoldable pub isBlank : Record → Bool
+isBlank (good e) = false
+isBlank blank = true
+isBlank (bad b) = false
+
+unfoldable pub isProper : Header → Bool
+isProper proper = true
+isProper (improper b) = false
+
+unfoldable pub isLost : Condition → Bool
+isLost Unused = false
+isLost Whole = false
+isLost RecordLost = false
+isLost Faulty = false
+isLost Lost = true
+
+-- the log's length: used slots come first, or the image is refused by 5
+unfoldable pub logLength : ℕ → Image → ℕ
+logLength m i = lowest (λ k. isBlank (i .records k)) m
+
+-- no used slot after a blank record
+unfoldable pub noGap : ℕ → Image → Bool
+noGap m i = all (λ k. ltb k (logLength m i) || isBlank (i .records k)) m
+
+-- no bad record beside an entry that is not intact
+unfoldable pub noneLost : ℕ → Image → Bool
+noneLost m i = all (λ k. not (isLost (conditionAt i k))) m
+
+-- no used slot's epoch below the one before it
+unfoldable pub rising : ℕ → Image → Bool
+rising m i = all (λ k. not (ltb (suc k) (logLength m i)) || leb (epochAt i k) (epochAt i (suc k))) m
+
+-- refusals 4 to 7 refuse a single image
+unfoldable pub imageRefusal : ℕ → Image → ℕ
+imageRefusal m i =
+    refuse 4 (not (isProper (i .header))) else refuse 5 (not (noGap m i)) else refuse 6 (not (noneLost m i)) else refuse 7 (not (rising m i))
+
+-- a cluster's allowed n
+unfoldable pub isSize : ℕ → Bool
+isSize n = eqb n 3 || eqb n 5 || eqb n 7
+
+unfoldable pub isReplica : ℕ → ℕ → Bool
+isReplica n c = leb 1 c && leb c n
+
+unfoldable pub isSlots : ℕ → Bool
+isSlots m = leb 1 m && leb m 64
+
+-- what the caller names is out of range, or the buffer has not so many bytes
+unfoldable pub callRefusal : ℕ → ℕ → ℕ → ℕ → ℕ
+callRefusal c n m size =
+    refuse 1 (not (isSlots m)) else refuse 2 (not (isSize n && isReplica n c)) else refuse 3 (not (eqb size (imageSize m)))
+
+-- the refusal of reading the image of replica c, of n, with m slots
+unfoldable pub readRefusal : ℕ → ℕ → ℕ → Bytes → ℕ
+readRefusal c n m b = callRefusal c n m (length b) else imageRefusal m (decodeImage c n m b)
+
+-- what planner and recovery see of a replica
+pub record View : Type 0 where
+  pub readable : Bool
+  pub length : ℕ
+  pub condition : ℕ → Condition
+  pub epoch : ℕ → ℕ
+
+-- a replica whose image is refused is unreadable, and treated as away
+unfoldable pub viewOf : Bool → ℕ → Image → View
+viewOf present m i = record {
+  readable = present && eqb (imageRefusal m i) 0;
+  length = logLength m i;
+  condition = conditionAt i;
+  epoch = epochAt i;
+}

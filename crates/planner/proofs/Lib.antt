@@ -1,0 +1,12 @@
+-- Laws that the proofs of this crate, and of the crates above it, cite.
+pub mod VerdictTies
+pub mod SetLaws
+pub mod SurveyLaws
+pub mod RuleLaws
+pub mod CongLaws
+pub mod PlanLaws
+pub mod SeenLaws
+pub mod CallLaws
+pub mod RowLaws
+pub mod FrontLaws
+pub mod OutcomeLaws

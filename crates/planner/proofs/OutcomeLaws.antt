@@ -1,0 +1,132 @@
+-- What the planner's call answers and leaves.
+use Prim.Native.Nat.{ℕ, suc, _+_, _<_, _≤_}
+use mathlib.Core.Path.{_≡_, refl, sym, _∙_, subst}
+use mathlib.Core.Bool.{Bool, true, false, cond}
+use mathlib.Core.List.{List}
+use native.Mathlib.Omega.{arith}
+use native.Mathlib.Numerals.{add-one}
+use lib.Dec.{eqb, ltb}
+use lib.ListN.{length, getD, take}
+use lib.Seq.{take-all}
+use borrow.Author.Tests.{eqb-true, eq-eqb, ne-eqb, lt-ltb, le-ltb}
+use Rattle.slices.specs.Parts.{Bytes}
+use Rattle.search.specs.Search.{listed}
+use Rattle.image.specs.View.{View}
+use Rattle.planner.specs.Setting.{Setting, settingOf, has}
+use Rattle.planner.specs.Rules.{Refused, Waiting, Ready, answer, end, firstWaiting}
+use Rattle.planner.specs.Plan.{viewsIn, planBytes, clusterRefusal, planRefusal}
+use Rattle.planner.specs.declared.PlanAnswer.{PlanAnswer}
+use Rattle.planner.specs.declared.PlanAnswer.the-variants as plan
+use Rattle.planner.specs.declared.ReplicaRow.{ReplicaRow}
+use Rattle.planner.specs.Survey.{SurveyOf, Planned}
+use Rattle.planner.specs.Answers.{answered, answerAt, planAnswer, unlessRefused, rowsOf, frontRows, lentRefusal, numberRow, Outcome}
+use Rattle.planner.proofs.RowLaws.{lengths-fit, rows-are}
+use Rattle.planner.proofs.SeenLaws.{size-le}
+use Rattle.planner.proofs.CallLaws.{lent-rows, lent-zero, shaped-size, cluster-shaped}
+use Rattle.planner.proofs.FrontLaws.{front-none, front-all}
+
+pub answer-waiting : (e w : ℕ) → w < e → plan.Waiting (w + 1) ≡ answerAt e w
+unfolding answerAt
+answer-waiting e w h = rw (lt-ltb w e h, add-one) refl
+
+pub answer-ready : (e w : ℕ) → e ≤ w → plan.Ready e ≡ answerAt e w
+unfolding answerAt
+answer-ready e w h = rw (le-ltb w e h) refl
+
+answer-found : (S : Setting) (W : ℕ → View) {final waiting : ℕ} → W (S .leader) .readable ≡ true → final ≡ end S W → waiting ≡ firstWaiting S W
+    → answerAt final waiting ≡ answered (answer S W)
+unfolding answerAt answered answer
+answer-found S W ok f w = rw (ok, f, w) (go (ltb (firstWaiting S W) (end S W)))
+  where
+    go : (t : Bool) → cond t (plan.Waiting (suc (firstWaiting S W))) (plan.Ready (end S W)) ≡ answered (cond t (Waiting (firstWaiting S W)) (Ready (end S W)))
+    go true = refl
+    go false = refl
+
+pub refused-outcome : (refusal : ℕ) (rows : List ReplicaRow) → length rows ≡ 7 → (refusal ≡ 0 → ⊥) → (S : Setting) (W : ℕ → View) → Outcome refusal S W (plan.Refused refusal) 0 rows
+unfolding planAnswer
+refused-outcome refusal rows l e S W = record {
+  sized = l;
+  answer-is = rw (ne-eqb refusal 0 e) refl;
+  count-is = rw (ne-eqb refusal 0 e) refl;
+  rows-are = λ z. absurd (e z);
+}
+
+pub left-alone : (refusal : ℕ) (new old : List ℕ) → (refusal ≡ 0 → ⊥) → old ≡ unlessRefused refusal new old
+unfolding unlessRefused
+left-alone refusal new old e = rw (ne-eqb refusal 0 e) refl
+
+module _ (S : Setting) (W : ℕ → View) {n leader readable : ℕ} {lengths conditions epochs : List ℕ} (o : SurveyOf S W n leader readable lengths conditions epochs) where
+  pub rows-ask : (n ≤ 7) × ((c : ℕ) → c < n → has readable c ≡ true → getD lengths c 0 ≤ 64)
+  rows-ask = (o .few, lengths-fit n (S .m) readable W lengths conditions epochs (o .surveyed) (λ c b r. o .logs-fit c) (o .slots-fit))
+
+  pub planned-outcome : {refusal final waiting : ℕ} {bytes : List ℕ} {a : PlanAnswer} {rows : List ReplicaRow} → refusal ≡ 0 → Planned S W bytes final waiting → a ≡ answerAt final waiting
+      → (length rows ≡ 7) × (take n rows ≡ listed n (numberRow readable lengths epochs)) → Outcome refusal S W a n rows
+  unfolding planAnswer rowsOf
+  planned-outcome z p e t = record {
+    sized = t .0;
+    answer-is = e ∙ answer-found S W (rw (o .leader-is) (o .leader-reads)) (p .end-is) (p .waiting-is) ∙ rw (eq-eqb _ _ z) refl;
+    count-is = rw (eq-eqb _ _ z) (sym (o .n-is));
+    rows-are = λ _. rw (o .n-is) (t .1 ∙ rows-are n (S .m) readable W lengths conditions epochs (o .surveyed) (λ c b r. o .logs-fit c));
+  }
+
+pub bytes-filled : (S : Setting) (W : ℕ → View) {refusal final waiting : ℕ} {bytes new : List ℕ} (old : List ℕ) → refusal ≡ 0 → Planned S W bytes final waiting → length old ≡ S .m → new ≡ take (length old) bytes
+    → new ≡ unlessRefused refusal (planBytes S W) old
+unfolding unlessRefused
+bytes-filled S W {refusal} old z p l e = rw (eq-eqb refusal 0 z) (e ∙ rw l (p .bytes-are))
+
+pub put-end : (old bytes plan : List ℕ) (k : ℕ) → length plan ≡ length old → k ≤ length plan → length plan ≤ k → take k plan ≡ take k bytes → plan ≡ take (length old) bytes
+put-end old bytes plan k n h g e = let q : length old ≡ k = omega arith in rw q (sym (take-all k plan g) ∙ e)
+
+pub plan-fits : (n m leader present : ℕ) {W : ℕ → View} {l readable len : ℕ} {lengths conditions epochs : List ℕ} → SurveyOf (settingOf n m leader present) W n l readable lengths conditions epochs → len ≡ m → len ≤ 64
+unfolding settingOf
+plan-fits n m leader present o e = omega (arith, o .slots-fit)
+
+pub outcome-at : {r q : ℕ} {S : Setting} {W : ℕ → View} {a : PlanAnswer} {count : ℕ} {rows : List ReplicaRow} → r ≡ q → Outcome r S W a count rows → Outcome q S W a count rows
+outcome-at {r} {q} {S} {W} {a} {count} {rows} e o = subst (λ (x : ℕ). Outcome x S W a count rows) e o
+
+-- the rows of the table afterwards
+pub rows-filled : {refusal : ℕ} {S : Setting} {W : ℕ → View} {a : PlanAnswer} {count : ℕ} {rows : List ReplicaRow} (old : List ReplicaRow) → Outcome refusal S W a count rows
+    → (refusal ≡ 0 → length old ≡ S .n) → frontRows count rows old ≡ unlessRefused refusal (rowsOf S W) old
+unfolding unlessRefused frontRows
+rows-filled {refusal} {S} {W} {a} {count} {rows} old o l = go (eqb refusal 0) refl
+  where
+    go : (t : Bool) → eqb refusal 0 ≡ t → frontRows count rows old ≡ cond t (rowsOf S W) old
+    go true e =
+        let z = eqb-true refusal 0 e in
+        rw (o .count-is, e) (front-all (S .n) rows old (l z) ∙ o .rows-are z)
+    go false e = rw (o .count-is, e) (sym (front-none rows old))
+
+pub count-fits : {refusal : ℕ} {S : Setting} {W : ℕ → View} {a : PlanAnswer} {count : ℕ} {rows : List ReplicaRow} (old : List ReplicaRow) → Outcome refusal S W a count rows
+    → (refusal ≡ 0 → (length old ≡ S .n) × (S .n ≤ 7)) → (count ≤ 7) × (count ≤ length old)
+count-fits {refusal} {S} {W} {a} {count} {rows} old o l = go (eqb refusal 0) refl
+  where
+    go : (t : Bool) → eqb refusal 0 ≡ t → (count ≤ 7) × (count ≤ length old)
+    go true e =
+        let z = l (eqb-true refusal 0 e) in
+        let n : count ≡ S .n = o .count-is ∙ rw e refl in
+        (omega (arith, z .1), omega (arith, z .0))
+    go false e = let n : count ≡ 0 = o .count-is ∙ rw e refl in (omega arith, omega arith)
+
+-- a call that is not refused has a table of n rows
+pub table-fits : (n m leader present : ℕ) (b : Bytes) (bytes rows : ℕ) → planRefusal n m leader present b bytes rows ≡ 0 → (rows ≡ n) × (n ≤ 7)
+unfolding planRefusal lentRefusal
+table-fits n m leader present b bytes rows e = (
+  lent-rows (clusterRefusal n m leader present b) n m bytes rows (sym e) refl,
+  size-le n (shaped-size n m present (length b) (cluster-shaped n m leader present b (lent-zero (clusterRefusal n m leader present b) n m bytes rows (sym e) refl))),
+)
+
+-- ---- the call as a whole
+
+module _ (n m leader present : ℕ) (b : Bytes) (bytes : ℕ) (old : List ReplicaRow) {a : PlanAnswer} {count : ℕ} {rows : List ReplicaRow}
+    (o : Outcome (planRefusal n m leader present b bytes (length old)) (settingOf n m leader present) (viewsIn (settingOf n m leader present) b) a count rows) where
+  pub fill-asks : {k : ℕ} → k ≡ count → (length rows ≡ 7) × (k ≤ 7) × (k ≤ length old)
+  unfolding settingOf
+  fill-asks e = let f = count-fits old o (table-fits n m leader present b bytes (length old)) in (o .sized, omega (arith, f .0), omega (arith, f .1))
+
+  pub call-answers : {r : PlanAnswer} → r ≡ a → r ≡ planAnswer (planRefusal n m leader present b bytes (length old)) (answer (settingOf n m leader present) (viewsIn (settingOf n m leader present) b))
+  call-answers e = e ∙ o .answer-is
+
+  pub call-fills : {k : ℕ} {new : List ReplicaRow} → k ≡ count → new ≡ frontRows k rows old
+      → new ≡ unlessRefused (planRefusal n m leader present b bytes (length old)) (rowsOf (settingOf n m leader present) (viewsIn (settingOf n m leader present) b)) old
+  unfolding settingOf
+  call-fills e q = q ∙ rw e (rows-filled old o (λ z. table-fits n m leader present b bytes (length old) z .0))

@@ -1,0 +1,192 @@
+-- The survey of a cluster, replica by replica.
+use Prim.Native.Nat.{ℕ, _+_, _*_, _-_, _<_, _≤_}
+use mathlib.Core.Path.{_≡_, refl, sym, _∙_, ap, subst}
+use mathlib.Core.Bool.{Bool, true, false, _||_, true≢false}
+use mathlib.Core.List.{List}
+use native.Mathlib.Omega.{arith}
+use native.Mathlib.Decide.{ℕ-discrete}
+use native.Mathlib.Numerals.{add-one}
+use lib.Dec.{eqb}
+use lib.ListN.{length, getD, set, take, drop, length-set}
+use lib.Seq.{getD-set-same, getD-set-other}
+use borrow.Author.Tests.{eqb-true, eq-eqb, ne-eqb}
+use Rattle.slices.specs.Parts.{Bytes}
+use Rattle.slices.proofs.PartLaws.{length-part}
+use Rattle.slices.proofs.SpliceLaws.{part-lent}
+use Rattle.slices.proofs.SameLaws.{and-off, clash}
+use Rattle.image.specs.Image.{Image, imageSize, decodeImage}
+use Rattle.image.specs.View.{View, isSize, viewOf, imageRefusal, conditionAt, epochAt}
+use Rattle.image.specs.Seen.{Seen, conditionsOf, conditionNumber}
+use Rattle.image.specs.Cluster.{imageAt, imagePart, decode}
+use Rattle.image.proofs.DecodeLaws.{size-is}
+use Rattle.image.proofs.ClusterLaws.{image-at, image-fits}
+use Rattle.image.proofs.ScanLaws.{taken-at}
+use Rattle.planner.specs.Setting.{has, settingOf, viewsOf}
+use Rattle.planner.specs.Plan.{viewsIn}
+use Rattle.planner.specs.Sets.{inserted, setOf}
+use Rattle.planner.specs.Survey.{Surveyed, Copied}
+use Rattle.planner.proofs.SetLaws.{set-none, set-in, set-out, has-set}
+
+-- ---- where an image stands in the cluster
+
+size-eq : (m : ℕ) → 28 + 274 * m ≡ imageSize m
+size-eq m = omega (arith, size-is m)
+
+pub start-is : (m c : ℕ) → (28 + 274 * m) * c ≡ imageAt m c
+start-is m c = ap (λ (z : ℕ). z * c) (size-eq m) ∙ sym (image-at m c)
+
+module _ (n m c : ℕ) (b : Bytes) (h : c < n) (len : length b ≡ imageAt m n) where
+  pub image-there : (28 + 274 * m) * c + (28 + 274 * m) ≤ length b
+  image-there = omega (arith, image-fits n m c h, start-is m c, size-eq m, len)
+
+  part-is : take ((28 + 274 * m) * c + (28 + 274 * m) - (28 + 274 * m) * c) (drop ((28 + 274 * m) * c) b) ≡ imagePart m b c
+  unfolding imagePart
+  part-is = part-lent b ((28 + 274 * m) * c) (28 + 274 * m) ∙ rw (start-is, size-eq) refl
+
+  pub lent-sized : length (take ((28 + 274 * m) * c + (28 + 274 * m) - (28 + 274 * m) * c) (drop ((28 + 274 * m) * c) b)) ≡ imageSize m
+  unfolding imagePart
+  lent-sized = ap length part-is ∙ length-part b (imageAt m c) (imageSize m) (omega (arith, image-fits n m c h, len))
+
+  lent-is : decodeImage (c + 1) n m (take ((28 + 274 * m) * c + (28 + 274 * m) - (28 + 274 * m) * c) (drop ((28 + 274 * m) * c) b)) ≡ decode n m b c
+  unfolding decode
+  lent-is = rw (part-is, add-one) refl
+
+  pub view-there : {r l : ℕ} {cs es : List ℕ}
+      → (r ≡ imageRefusal m (decodeImage (c + 1) n m (take ((28 + 274 * m) * c + (28 + 274 * m) - (28 + 274 * m) * c) (drop ((28 + 274 * m) * c) b))))
+      × (r ≡ 0 → Seen m (decodeImage (c + 1) n m (take ((28 + 274 * m) * c + (28 + 274 * m) - (28 + 274 * m) * c) (drop ((28 + 274 * m) * c) b))) l cs es)
+      → (r ≡ imageRefusal m (decode n m b c)) × (r ≡ 0 → Seen m (decode n m b c) l cs es)
+  view-there {r} {l} {cs} {es} p = subst (λ (i : Image). (r ≡ imageRefusal m i) × (r ≡ 0 → Seen m i l cs es)) lent-is p
+
+pub size-le : (n : ℕ) → isSize n ≡ true → n ≤ 7
+unfolding isSize
+size-le n e = go (eqb n 3) (eqb n 5) (eqb n 7) refl refl refl e
+  where
+    go : (a b d : Bool) → eqb n 3 ≡ a → eqb n 5 ≡ b → eqb n 7 ≡ d → (a || b || d) ≡ true → n ≤ 7
+    go true b d x y z e = omega (arith, eqb-true n 3 x)
+    go false true d x y z e = omega (arith, eqb-true n 5 y)
+    go false false true x y z e = omega (arith, eqb-true n 7 z)
+    go false false false x y z e = absurd (true≢false (sym e))
+
+-- ---- copied slots
+
+pub copied-none : (c : ℕ) (old seen : List ℕ) → Copied c old seen old 0
+copied-none c old seen = record { same-size = refl; here = λ j h. absurd (omega arith); below = λ i h. refl }
+
+pub copied-more : {c : ℕ} {old seen new : List ℕ} (k : ℕ) → Copied c old seen new k → c * 64 + k < length new → Copied c old seen (set new (c * 64 + k) (getD seen k 0)) (k + 1)
+copied-more {c} {old} {seen} {new} k p h = record {
+  same-size = length-set new (c * 64 + k) (getD seen k 0) ∙ p .same-size;
+  here = λ j l. go j (ℕ-discrete j k) l;
+  below = λ i l. getD-set-other new (c * 64 + k) i (getD seen k 0) 0 (λ q. omega arith) ∙ p .below i l;
+}
+  where
+    go : (j : ℕ) → Dec (j ≡ k) → j < k + 1 → getD (set new (c * 64 + k) (getD seen k 0)) (c * 64 + j) 0 ≡ getD seen j 0
+    go j (yes q) l = rw q (getD-set-same new (c * 64 + k) (getD seen k 0) 0 h)
+    go j (no q) l = getD-set-other new (c * 64 + k) (c * 64 + j) (getD seen k 0) 0 (λ z. q (omega arith)) ∙ p .here j (omega arith)
+
+pub copied-all : {c : ℕ} {old seen new : List ℕ} (k : ℕ) → Copied c old seen new k → 64 ≤ k → Copied c old seen new 64
+copied-all k p h = record { same-size = p .same-size; here = λ j l. p .here j (omega arith); below = p .below }
+
+-- ---- the replicas below c are surveyed
+
+pub record Partly (m : ℕ) (W : ℕ → View) (readable : ℕ) (lengths conditions epochs : List ℕ) (c : ℕ) : Type 0 where
+  pub lengths-sized : length lengths ≡ 7
+  pub conditions-sized : length conditions ≡ 448
+  pub epochs-sized : length epochs ≡ 448
+  pub set-is : readable ≡ setOf (λ d. W d .readable) c
+  pub length-is : (d : ℕ) → d < c → W d .readable ≡ true → getD lengths d 0 ≡ W d .length
+  pub condition-is : (d k : ℕ) → d < c → k < m → W d .readable ≡ true → getD conditions (d * 64 + k) 0 ≡ conditionNumber (W d .condition k)
+  pub epoch-is : (d k : ℕ) → d < c → k < m → W d .readable ≡ true → getD epochs (d * 64 + k) 0 ≡ W d .epoch k
+
+pub partly-none : (m : ℕ) (W : ℕ → View) (lengths conditions epochs : List ℕ) → length lengths ≡ 7 → length conditions ≡ 448 → length epochs ≡ 448 → Partly m W 0 lengths conditions epochs 0
+partly-none m W lengths conditions epochs a b e = record {
+  lengths-sized = a;
+  conditions-sized = b;
+  epochs-sized = e;
+  set-is = set-none (λ d. W d .readable);
+  length-is = λ d h. absurd (omega arith);
+  condition-is = λ d k h. absurd (omega arith);
+  epoch-is = λ d k h. absurd (omega arith);
+}
+
+pub partly-all : {m : ℕ} {W : ℕ → View} {readable : ℕ} {lengths conditions epochs : List ℕ} (n c : ℕ) → Partly m W readable lengths conditions epochs c → c ≤ n → n ≤ c
+    → Surveyed n m W readable lengths conditions epochs
+partly-all {m} {W} n c p h g = record {
+  readable-is = λ d l. rw (p .set-is) (has-set (λ e. W e .readable) c d (omega arith));
+  length-is = λ d l. p .length-is d (omega arith);
+  condition-is = λ d k l. p .condition-is d k (omega arith);
+  epoch-is = λ d k l. p .epoch-is d k (omega arith);
+}
+
+pub partly-skip : {m : ℕ} {W : ℕ → View} {readable : ℕ} {lengths conditions epochs : List ℕ} (c : ℕ) → Partly m W readable lengths conditions epochs c → W c .readable ≡ false
+    → Partly m W readable lengths conditions epochs (c + 1)
+partly-skip {m} {W} {readable} {lengths} {conditions} {epochs} c p off = record {
+  lengths-sized = p .lengths-sized;
+  conditions-sized = p .conditions-sized;
+  epochs-sized = p .epochs-sized;
+  set-is = set-out (λ d. W d .readable) c (p .set-is) off;
+  length-is = λ d h r. p .length-is d (below d h r) r;
+  condition-is = λ d k h l r. p .condition-is d k (below d h r) l r;
+  epoch-is = λ d k h l r. p .epoch-is d k (below d h r) l r;
+}
+  where
+    below : (d : ℕ) → d < c + 1 → W d .readable ≡ true → d < c
+    below d h r = go (ℕ-discrete d c)
+      where
+        go : Dec (d ≡ c) → d < c
+        go (yes q) = absurd (clash (rw q at r) off)
+        go (no q) = omega arith
+
+pub partly-more : {m : ℕ} {W : ℕ → View} {readable : ℕ} {lengths conditions epochs seen-conditions seen-epochs conditions′ epochs′ : List ℕ} (c len : ℕ)
+    → Partly m W readable lengths conditions epochs c → c < 7 → m ≤ 64 → W c .readable ≡ true → len ≡ W c .length
+    → ((k : ℕ) → k < m → getD seen-conditions k 0 ≡ conditionNumber (W c .condition k)) → ((k : ℕ) → k < m → getD seen-epochs k 0 ≡ W c .epoch k)
+    → Copied c conditions seen-conditions conditions′ 64 → Copied c epochs seen-epochs epochs′ 64
+    → Partly m W (inserted readable c) (set lengths c len) conditions′ epochs′ (c + 1)
+partly-more {m} {W} {readable} {lengths} {conditions} {epochs} {seen-conditions} {seen-epochs} {conditions′} {epochs′} c len p c7 m64 on le ce ee cc′ ec′ = record {
+  lengths-sized = length-set lengths c len ∙ p .lengths-sized;
+  conditions-sized = cc′ .same-size ∙ p .conditions-sized;
+  epochs-sized = ec′ .same-size ∙ p .epochs-sized;
+  set-is = set-in (λ d. W d .readable) c (p .set-is) on;
+  length-is = λ d h r. at-length d r h (ℕ-discrete d c);
+  condition-is = λ d k h l r. at-condition d k l r h (ℕ-discrete d c);
+  epoch-is = λ d k h l r. at-epoch d k l r h (ℕ-discrete d c);
+}
+  where
+    at-length : (d : ℕ) → W d .readable ≡ true → d < c + 1 → Dec (d ≡ c) → getD (set lengths c len) d 0 ≡ W d .length
+    at-length d r h (yes q) = rw q (getD-set-same lengths c len 0 (omega (arith, p .lengths-sized)) ∙ le)
+    at-length d r h (no q) = getD-set-other lengths c d len 0 q ∙ p .length-is d (omega arith) r
+
+    at-condition : (d k : ℕ) → k < m → W d .readable ≡ true → d < c + 1 → Dec (d ≡ c) → getD conditions′ (d * 64 + k) 0 ≡ conditionNumber (W d .condition k)
+    at-condition d k l r h (yes q) = rw q (cc′ .here k (omega arith) ∙ ce k l)
+    at-condition d k l r h (no q) = cc′ .below (d * 64 + k) (omega arith) ∙ p .condition-is d k (omega arith) l r
+
+    at-epoch : (d k : ℕ) → k < m → W d .readable ≡ true → d < c + 1 → Dec (d ≡ c) → getD epochs′ (d * 64 + k) 0 ≡ W d .epoch k
+    at-epoch d k l r h (yes q) = rw q (ec′ .here k (omega arith) ∙ ee k l)
+    at-epoch d k l r h (no q) = ec′ .below (d * 64 + k) (omega arith) ∙ p .epoch-is d k (omega arith) l r
+
+-- ---- what is seen of replica c
+
+module _ (n m present : ℕ) (b : Bytes) (c : ℕ) where
+  pub absent-off : has present c ≡ false → viewsIn (settingOf n m 0 present) b c .readable ≡ false
+  unfolding viewsIn viewsOf viewOf settingOf
+  absent-off e = rw e refl
+
+  pub refused-off : (imageRefusal m (decode n m b c) ≡ 0 → ⊥) → viewsIn (settingOf n m 0 present) b c .readable ≡ false
+  unfolding viewsIn viewsOf viewOf settingOf
+  refused-off e = rw (ne-eqb (imageRefusal m (decode n m b c)) 0 e) (and-off (has present c))
+
+  pub seen-more : {readable r len : ℕ} {lengths conditions epochs seen-conditions seen-epochs conditions′ epochs′ : List ℕ}
+      → Partly m (viewsIn (settingOf n m 0 present) b) readable lengths conditions epochs c → c < 7 → m ≤ 64 → has present c ≡ true → imageRefusal m (decode n m b c) ≡ 0
+      → Seen m (decode n m b c) len seen-conditions seen-epochs → Copied c conditions seen-conditions conditions′ 64 → Copied c epochs seen-epochs epochs′ 64 → r ≡ inserted readable c
+      → Partly m (viewsIn (settingOf n m 0 present) b) r (set lengths c len) conditions′ epochs′ (c + 1)
+  unfolding viewsIn viewsOf viewOf settingOf conditionsOf
+  seen-more {readable} {r} {len} {lengths} {conditions} {epochs} {seen-conditions} {seen-epochs} p c7 m64 on ok s x y q =
+      rw q (partly-more c len p c7 m64 (rw (on, eq-eqb _ _ ok) refl) (s .length-is)
+      (taken-at m (λ k. conditionNumber (conditionAt (decode n m b c) k)) seen-conditions (s .conditions-are))
+      (taken-at m (epochAt (decode n m b c)) seen-epochs (s .epochs-are)) x y)
+
+-- the leader makes no difference
+pub surveyed-any : (n m present : ℕ) (b : Bytes) {readable : ℕ} {lengths conditions epochs : List ℕ}
+    → Surveyed n m (viewsIn (settingOf n m 0 present) b) readable lengths conditions epochs → (leader : ℕ)
+    → Surveyed n m (viewsIn (settingOf n m leader present) b) readable lengths conditions epochs
+unfolding viewsIn viewsOf settingOf
+surveyed-any n m present b s leader = s

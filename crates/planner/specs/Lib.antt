@@ -1,0 +1,8 @@
+-- What the contracts of `planner` cite.
+pub mod Setting
+pub mod Rules
+pub mod Plan
+pub mod Sets
+pub mod Survey
+pub mod Answers
+pub mod PlanRows

@@ -1,0 +1,63 @@
+-- The planner's call: its refusal, its answer in document 01's numbers, the plan bytes and the rows of the table.
+use Prim.Native.Nat.{ℕ, pred, suc, _+_, _*_, _^_, _-_}
+use mathlib.Core.Bool.{Bool, true, false, cond, not, _&&_}
+use mathlib.Core.List.{List}
+use lib.Dec.{eqb, leb, ltb}
+use lib.ListN.{length}
+use Rattle.search.specs.Search.{listed}
+use Rattle.slices.specs.Parts.{Bytes}
+use Rattle.image.specs.Refusal.{refuse, _else_}
+use Rattle.image.specs.View.{Condition, Unused, Whole, RecordLost, Faulty, Lost, View, isSize, isReplica, isSlots}
+use Rattle.image.specs.Cluster.{decode, imageAt}
+use Rattle.planner.specs.Setting.{Setting, settingOf, viewsOf}
+use Rattle.planner.specs.Rules.{Rule, Keep, Fetch, Truncate, Wait, rule, donor, end}
+
+-- what is seen of the cluster in a buffer
+unfoldable pub viewsIn : Setting → Bytes → ℕ → View
+viewsIn S b = viewsOf S (decode (S .n) (S .m) b)
+
+-- refusals 1, 2, 3, 11 and 12 of planning, step and run
+unfoldable pub clusterRefusal : ℕ → ℕ → ℕ → ℕ → Bytes → ℕ
+clusterRefusal n m leader present b =
+    refuse 1 (not (isSlots m))
+    else refuse 2 (not (isSize n))
+    else refuse 3 (not (eqb (length b) (imageAt m n)))
+    else refuse 11 (not (ltb present (2 ^ n)))
+    else refuse 12 (not (isReplica n leader && viewsIn (settingOf n m leader present) b (pred leader) .readable))
+
+-- the planner is lent a plan of m bytes and a table of n rows
+unfoldable pub planRefusal : ℕ → ℕ → ℕ → ℕ → Bytes → ℕ → ℕ → ℕ
+planRefusal n m leader present b plan rows =
+    clusterRefusal n m leader present b else refuse 13 (not (eqb plan m && eqb rows n))
+
+-- 0 unused, 1 whole, 2 record to be rewritten
+unfoldable pub keptByte : Condition → ℕ
+keptByte Unused = 0
+keptByte Whole = 1
+keptByte RecordLost = 2
+keptByte Faulty = 0
+keptByte Lost = 0
+
+-- 3 wait, 4 the lowest cut, 10 + c fetch from replica number c
+unfoldable pub ruleByte : Rule → Condition → ℕ → ℕ
+ruleByte Keep a d = keptByte a
+ruleByte Fetch a d = 10 + suc d
+ruleByte Truncate a d = 4
+ruleByte Wait a d = 3
+
+-- 5 after the cut
+unfoldable pub planByte : Setting → (ℕ → View) → ℕ → ℕ
+planByte S W k =
+    cond (ltb k (W (S .leader) .length))
+    (cond (ltb (end S W) k) 5 (ruleByte (rule S W k) (W (S .leader) .condition k) (donor S W k)))
+    0
+
+unfoldable pub planBytes : Setting → (ℕ → View) → Bytes
+planBytes S W = listed (S .m) (planByte S W)
+
+-- 01's row for a replica: whether it is readable and present, its log's length and its last epoch, both 0 if not
+unfoldable pub rowLength : View → ℕ
+rowLength v = cond (v .readable) (v .length) 0
+
+unfoldable pub rowEpoch : View → ℕ
+rowEpoch v = cond (v .readable) (cond (eqb (v .length) 0) 0 (v .epoch (v .length - 1))) 0

@@ -1,0 +1,111 @@
+-- Document 01, "Asking the fleet": answers, rules and the end of the log, as functions of the views W of the replicas.
+use Prim.Native.Nat.{ℕ, _+_, _/_}
+use mathlib.Core.Bool.{Bool, true, false, cond, not, _&&_}
+use lib.Dec.{eqb, leb, ltb}
+use Rattle.search.specs.Search.{lowest, count}
+use Rattle.image.specs.View.{Condition, Unused, Whole, RecordLost, Faulty, Lost, View}
+use Rattle.image.specs.Read.{isWhole}
+use Rattle.planner.specs.Setting.{Setting}
+
+-- more than half: (n + 1) / 2 for an odd n
+unfoldable pub majority : ℕ → ℕ
+majority n = n / 2 + 1
+
+-- so many don't-haves allow a truncation (01's cut)
+unfoldable pub mayTruncate : ℕ → ℕ → Bool
+mayTruncate n d = leb (majority n) d
+
+-- 01's faulty: verdicts 3 and 4
+unfoldable pub isFaulty : Condition → Bool
+isFaulty Unused = false
+isFaulty Whole = false
+isFaulty RecordLost = false
+isFaulty Faulty = true
+isFaulty Lost = false
+
+unfoldable pub isRecordLost : Condition → Bool
+isRecordLost Unused = false
+isRecordLost Whole = false
+isRecordLost RecordLost = true
+isRecordLost Faulty = false
+isRecordLost Lost = false
+
+unfoldable pub isUsed : Condition → Bool
+isUsed Unused = false
+isUsed Whole = true
+isUsed RecordLost = true
+isUsed Faulty = true
+isUsed Lost = true
+
+-- what to do about a slot of the leader
+pub data Rule : Type 0 where
+  Keep Fetch Truncate Wait : Rule
+
+unfoldable pub isTruncate : Rule → Bool
+isTruncate Keep = false
+isTruncate Fetch = false
+isTruncate Truncate = true
+isTruncate Wait = false
+
+unfoldable pub isFetch : Rule → Bool
+isFetch Keep = false
+isFetch Fetch = true
+isFetch Truncate = false
+isFetch Wait = false
+
+unfoldable pub isWait : Rule → Bool
+isWait Keep = false
+isWait Fetch = false
+isWait Truncate = false
+isWait Wait = true
+
+module _ (S : Setting) (W : ℕ → View) where
+  open Setting S using (n, leader)
+
+  -- c answers: it is readable, present and not the leader
+  unfoldable pub answers : ℕ → Bool
+  answers c = not (eqb c leader) && W c .readable
+
+  -- slot k of c is used under the leader's epoch there
+  unfoldable pub agrees : ℕ → ℕ → Bool
+  agrees c k = isUsed (W c .condition k) && eqb (W c .epoch k) (W leader .epoch k)
+
+  unfoldable pub have : ℕ → ℕ → Bool
+  have k c = answers c && isWhole (W c .condition k) && agrees c k
+
+  unfoldable pub haveFaulty : ℕ → ℕ → Bool
+  haveFaulty k c = answers c && isFaulty (W c .condition k) && agrees c k
+
+  unfoldable pub dontHave : ℕ → ℕ → Bool
+  dontHave k c = answers c && not (agrees c k)
+
+  -- the lowest-numbered replica that has slot k intact; n if none has
+  unfoldable pub donor : ℕ → ℕ
+  donor k = lowest (have k) n
+
+  -- the rules, in their order: fetch, truncate if a majority of n answered don't-have, wait
+  unfoldable pub rule : ℕ → Rule
+  rule k =
+      cond (isFaulty (W leader .condition k))
+      (cond (ltb (donor k) n) Fetch (cond (mayTruncate n (count (dontHave k) n)) Truncate Wait))
+      Keep
+
+  -- the lowest truncated slot ends the log; all later ones go with it
+  unfoldable pub end : ℕ
+  end = lowest (λ k. isTruncate (rule k)) (W leader .length)
+
+  -- the lowest slot below the end that waits; the end if none does
+  unfoldable pub firstWaiting : ℕ
+  firstWaiting = lowest (λ k. isWait (rule k)) end
+
+-- refused by 12, waiting with the lowest waiting slot, or ready with the final length
+pub data Answer : Type 0 where
+  Refused : Answer
+  Waiting : ℕ → Answer
+  Ready : ℕ → Answer
+
+unfoldable pub answer : Setting → (ℕ → View) → Answer
+answer S W =
+    cond (W (S .leader) .readable)
+    (cond (ltb (firstWaiting S W) (end S W)) (Waiting (firstWaiting S W)) (Ready (end S W)))
+    Refused

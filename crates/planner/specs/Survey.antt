@@ -1,0 +1,84 @@
+-- A survey: what is seen of each replica, in numbers. Slot k of replica c stands at c * 64 + k.
+use Prim.Native.Nat.{ℕ, zero, suc, _+_, _*_, _<_, _≤_}
+use mathlib.Core.Path.{_≡_}
+use mathlib.Core.Bool.{Bool, true, false, cond, not, _&&_}
+use mathlib.Core.List.{List}
+use lib.Dec.{eqb, ltb}
+use lib.ListN.{length, getD, take}
+use Rattle.image.specs.View.{Condition, Unused, Whole, RecordLost, Faulty, Lost, View}
+use Rattle.image.specs.Seen.{conditionNumber}
+use Rattle.planner.specs.Setting.{Setting, has}
+use Rattle.planner.specs.Rules.{rule, donor, isTruncate, end, firstWaiting}
+use Rattle.planner.specs.Plan.{ruleByte, planBytes}
+
+-- the numbers of the readable replicas below n are those of the views W, in m slots
+pub record Surveyed (n m : ℕ) (W : ℕ → View) (readable : ℕ) (lengths conditions epochs : List ℕ) : Type 0 where
+  pub readable-is : (c : ℕ) → c < n → has readable c ≡ W c .readable
+  pub length-is : (c : ℕ) → c < n → W c .readable ≡ true → getD lengths c 0 ≡ W c .length
+  pub condition-is : (c k : ℕ) → c < n → k < m → W c .readable ≡ true → getD conditions (c * 64 + k) 0 ≡ conditionNumber (W c .condition k)
+  pub epoch-is : (c k : ℕ) → c < n → k < m → W c .readable ≡ true → getD epochs (c * 64 + k) 0 ≡ W c .epoch k
+
+-- k of what is seen of replica c stands at its slots, and what stood below them stands
+pub record Copied (c : ℕ) (old seen new : List ℕ) (k : ℕ) : Type 0 where
+  pub same-size : length new ≡ length old
+  pub here : (j : ℕ) → j < k → getD new (c * 64 + j) 0 ≡ getD seen j 0
+  pub below : (i : ℕ) → i < c * 64 → getD new i 0 ≡ getD old i 0
+
+-- the condition of a number
+unfoldable pub conditionFrom : ℕ → Condition
+conditionFrom zero = Unused
+conditionFrom (suc zero) = Whole
+conditionFrom (suc (suc zero)) = RecordLost
+conditionFrom (suc (suc (suc zero))) = Faulty
+conditionFrom (suc (suc (suc (suc x)))) = Lost
+
+-- n replicas and their leader, from 0
+unfoldable pub surveySetting : ℕ → ℕ → Setting
+surveySetting n leader = record { n = n; m = 64; leader = leader; present = λ c. true }
+
+-- what a survey's numbers say, where the leader's log is so long
+unfoldable pub surveyViews : ℕ → ℕ → List ℕ → List ℕ → ℕ → View
+surveyViews l readable conditions epochs c = record {
+  readable = has readable c;
+  length = l;
+  condition = λ k. conditionFrom (getD conditions (c * 64 + k) 0);
+  epoch = λ k. getD epochs (c * 64 + k) 0;
+}
+
+-- slot k of replica c is used under the leader's epoch
+unfoldable pub agreesAt : List ℕ → List ℕ → ℕ → ℕ → ℕ → Bool
+agreesAt conditions epochs leader c k =
+    not (eqb (getD conditions (c * 64 + k) 0) 0) && eqb (getD epochs (c * 64 + k) 0) (getD epochs (leader * 64 + k) 0)
+
+-- the plan byte of a slot that is not behind the end of the log
+unfoldable pub slotByte : Setting → (ℕ → View) → ℕ → ℕ
+slotByte S W k = ruleByte (rule S W k) (W (S .leader) .condition k) (donor S W k)
+
+-- a walk over the leader's slots came to slot k: none below it is truncated, and their bytes are right
+pub record Walked (S : Setting) (W : ℕ → View) (bytes : List ℕ) (k : ℕ) : Type 0 where
+  pub sized : length bytes ≡ 64
+  pub standing : (j : ℕ) → j < k → isTruncate (rule S W j) ≡ false
+  pub passed : (j : ℕ) → j < k → getD bytes j 0 ≡ slotByte S W j
+  pub ahead : (j : ℕ) → k ≤ j → getD bytes j 0 ≡ 0
+
+-- the bytes of a walk that came to its end, with 4 there and 5 behind it
+unfoldable pub markedByte : List ℕ → ℕ → ℕ → ℕ → ℕ
+markedByte bytes e l k = cond (ltb k e) (getD bytes k 0) (cond (ltb k l) (cond (eqb k e) 4 5) (getD bytes k 0))
+
+-- a survey is that of the views W, in which the leader is readable
+pub record SurveyOf (S : Setting) (W : ℕ → View) (n leader readable : ℕ) (lengths conditions epochs : List ℕ) : Type 0 where
+  pub n-is : S .n ≡ n
+  pub leader-is : S .leader ≡ leader
+  pub few : n ≤ 7
+  pub leader-below : leader < n
+  pub slots-fit : S .m ≤ 64
+  pub leader-reads : W leader .readable ≡ true
+  pub logs-fit : (c : ℕ) → W c .length ≤ S .m
+  pub surveyed : Surveyed n (S .m) W readable lengths conditions epochs
+
+-- the plan of the views W
+pub record Planned (S : Setting) (W : ℕ → View) (bytes : List ℕ) (final waiting : ℕ) : Type 0 where
+  pub sized : length bytes ≡ 64
+  pub bytes-are : take (S .m) bytes ≡ planBytes S W
+  pub end-is : final ≡ end S W
+  pub waiting-is : waiting ≡ firstWaiting S W

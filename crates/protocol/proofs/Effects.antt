@@ -1,0 +1,196 @@
+-- What each store does to the view of the replica that it is made on.
+use mathlib.Core.Path.{_≡_, refl, sym, ap, _∙_}
+use mathlib.Core.Bool.{Bool, true, false, cond, true≢false}
+use Prim.Native.Nat.{ℕ, suc, _≤_, _<_}
+use native.Mathlib.Omega.{arith}
+use native.Mathlib.Decide.{ℕ-discrete}
+use lib.Dec.{eqb}
+use borrow.Author.Tests.{eq-eqb, eqb-true}
+use Rattle.slices.specs.Parts.{Bytes}
+use Rattle.record.specs.Meaning.{Record, good, blank, bad, Entry, intact, broken}
+use Rattle.image.specs.Image.{Image, setRecord, setEntry}
+use Rattle.image.specs.View.{View, Condition, Unused, Whole, RecordLost, Faulty, Lost, condition, epochOf, isBlank, isLost, conditionAt, epochAt, logLength, viewOf}
+use Rattle.image.specs.Read.{isWhole}
+use Rattle.image.proofs.ViewLaws.{Sound, readable-present, readable-sound, readable-intro}
+use Rattle.image.proofs.StoreLaws.{entry-length, entry-epoch, entry-condition, entry-condition-other, entry-sound, record-condition, record-condition-other, record-epoch, record-epoch-other, mended-length, mended-epoch, mended-sound, blanked-length, blanked-sound, appended-length, appended-sound}
+use Rattle.planner.specs.Setting.{Setting}
+use Rattle.planner.specs.Rules.{isFaulty, isRecordLost}
+
+abbrev pub view : Setting → ℕ → Image → View
+view S c i = viewOf (S .present c) (S .m) i
+
+-- ---- what conditions tell
+pub record GoodAt (r : Record) : Type 0 where
+  pub epoch : ℕ
+  pub is : r ≡ good epoch
+
+pub faulty-good : (r : Record) (x : Entry) → isFaulty (condition r x) ≡ true → GoodAt r
+unfolding isFaulty condition
+faulty-good (good e) x h = record { epoch = e; is = refl }
+faulty-good blank x h = absurd (true≢false (sym h))
+faulty-good (bad b) (intact e p) h = absurd (true≢false (sym h))
+faulty-good (bad b) (broken d) h = absurd (true≢false (sym h))
+
+-- a whole slot's entry is intact with the slot's epoch
+pub record IntactAt (e : ℕ) (x : Entry) : Type 0 where
+  pub payload : Bytes
+  pub is : x ≡ intact e payload
+
+pub whole-intact : (r : Record) (x : Entry) → isWhole (condition r x) ≡ true → IntactAt (epochOf r x) x
+unfolding isWhole condition epochOf
+whole-intact (good e) (intact f p) h = go (eqb e f) refl h
+  where
+    go : (t : Bool) → eqb e f ≡ t → isWhole (cond t Whole Faulty) ≡ true → IntactAt e (intact f p)
+    go true q h = record { payload = p; is = rw (eqb-true e f q) refl }
+    go false q h = absurd (true≢false (sym h))
+whole-intact (good e) (broken b) h = absurd (true≢false (sym h))
+whole-intact blank x h = absurd (true≢false (sym h))
+whole-intact (bad b) (intact e p) h = record { payload = p; is = refl }
+whole-intact (bad b) (broken d) h = absurd (true≢false (sym h))
+
+faulty-is : (d : Condition) → isFaulty d ≡ true → d ≡ Faulty
+unfolding isFaulty
+faulty-is Unused h = absurd (true≢false (sym h))
+faulty-is Whole h = absurd (true≢false (sym h))
+faulty-is RecordLost h = absurd (true≢false (sym h))
+faulty-is Faulty h = refl
+faulty-is Lost h = absurd (true≢false (sym h))
+
+pub lost-whole : (d : Condition) → isRecordLost d ≡ true → isWhole d ≡ true
+unfolding isRecordLost isWhole
+lost-whole Unused h = h
+lost-whole Whole h = refl
+lost-whole RecordLost h = h
+lost-whole Faulty h = h
+lost-whole Lost h = h
+
+lost-used : (r : Record) (x : Entry) → isRecordLost (condition r x) ≡ true → isBlank r ≡ false
+unfolding isRecordLost condition isBlank
+lost-used (good e) x h = refl
+lost-used blank x h = sym h
+lost-used (bad b) x h = refl
+
+good-intact : (e : ℕ) (p : Bytes) → condition (good e) (intact e p) ≡ Whole
+unfolding condition
+good-intact e p = rw (eq-eqb e e refl)
+
+-- ---- a view before and after
+pub record Blanked (l : ℕ) (a b : View) : Type 0 where
+  pub readable : b .readable ≡ true
+  pub was : a .length ≡ suc l
+  pub is : b .length ≡ l
+  pub conditions : (j : ℕ) → j < l → b .condition j ≡ a .condition j
+  pub epochs : (j : ℕ) → j < l → b .epoch j ≡ a .epoch j
+
+pub record Mended (k : ℕ) (a b : View) : Type 0 where
+  pub readable : b .readable ≡ true
+  pub lengths : b .length ≡ a .length
+  pub whole : b .condition k ≡ Whole
+  pub conditions : (j : ℕ) → (j ≡ k → ⊥) → b .condition j ≡ a .condition j
+  pub epochs : (j : ℕ) → b .epoch j ≡ a .epoch j
+
+pub record Appended (l e : ℕ) (a b : View) : Type 0 where
+  pub readable : b .readable ≡ true
+  pub was : a .length ≡ l
+  pub is : b .length ≡ suc l
+  pub whole : b .condition l ≡ Whole
+  pub conditions : (j : ℕ) → j < l → b .condition j ≡ a .condition j
+  pub epoch : b .epoch l ≡ e
+  pub epochs : (j : ℕ) → j < l → b .epoch j ≡ a .epoch j
+
+pub view-ext : (a b : View) → a .readable ≡ b .readable → a .length ≡ b .length → ((j : ℕ) → a .condition j ≡ b .condition j) → ((j : ℕ) → a .epoch j ≡ b .epoch j) → a ≡ b
+view-ext a b p q r s = λ i. record { readable = p i; length = q i; condition = λ j. r j i; epoch = λ j. s j i }
+
+module _ (S : Setting) (c : ℕ) (i : Image) (ok : view S c i .readable ≡ true) where
+  sound : Sound (S .m) i
+  sound = readable-sound (S .present c) (S .m) i ok
+
+  readable : (j : Image) → Sound (S .m) j → view S c j .readable ≡ true
+  readable j s = readable-intro (S .present c) (S .m) j (readable-present (S .present c) (S .m) i ok) s
+
+  pub blank-effect : (l : ℕ) → view S c i .length ≡ suc l → Blanked l (view S c i) (view S c (setRecord i l blank))
+  unfolding viewOf setRecord
+  blank-effect l h = record {
+    readable = readable (setRecord i l blank) (blanked-sound (S .m) i l sound h);
+    was = h;
+    is = blanked-length (S .m) i l sound h;
+    conditions = λ j b. record-condition-other (S .m) i l blank j (omega arith);
+    epochs = λ j b. record-epoch-other (S .m) i l blank j (omega arith);
+  }
+
+  -- a faulty slot gets an intact entry of its epoch
+  pub mend-effect : (k : ℕ) (p : Bytes) → isFaulty (view S c i .condition k) ≡ true → Mended k (view S c i) (view S c (setEntry i k (intact (view S c i .epoch k) p)))
+  unfolding viewOf setEntry conditionAt epochAt epochOf isLost
+  mend-effect k p h =
+      let g = faulty-good (i .records k) (i .entries k) h in
+      let x = intact (epochOf (i .records k) (i .entries k)) p in
+      let same : epochOf (i .records k) x ≡ epochAt i k = rw (g .is) in
+      let w : condition (i .records k) x ≡ Whole = rw (g .is) (good-intact (g .epoch) p) in
+      record {
+        readable = readable (setEntry i k x) (entry-sound (S .m) i k x sound (ap isLost w) same);
+        lengths = entry-length (S .m) i k x;
+        whole = entry-condition (S .m) i k x ∙ w;
+        conditions = entry-condition-other (S .m) i k x;
+        epochs = entry-epoch (S .m) i k x same;
+      }
+
+  -- a slot whose record is lost gets it back
+  pub write-effect : (k : ℕ) → isRecordLost (view S c i .condition k) ≡ true → Mended k (view S c i) (view S c (setRecord i k (good (view S c i .epoch k))))
+  unfolding viewOf setRecord conditionAt epochAt isLost
+  write-effect k h =
+      let e = epochAt i k in
+      let y = whole-intact (i .records k) (i .entries k) (lost-whole (condition (i .records k) (i .entries k)) h) in
+      let w : condition (good e) (i .entries k) ≡ Whole = ap (λ (x : Entry). condition (good e) x) (y .is) ∙ good-intact e (y .payload) in
+      let u = lost-used (i .records k) (i .entries k) h in
+      record {
+        readable = readable (setRecord i k (good e)) (mended-sound (S .m) i k e sound u refl (ap isLost w));
+        lengths = mended-length (S .m) i k e sound u refl;
+        whole = record-condition (S .m) i k (good e) ∙ w;
+        conditions = record-condition-other (S .m) i k (good e);
+        epochs = mended-epoch (S .m) i k e sound u refl;
+      }
+
+  -- the first unused slot gets a record beside an intact entry of its epoch
+  pub append-effect : (e : ℕ) (p : Bytes) → view S c i .length < S .m → i .entries (view S c i .length) ≡ intact e p
+      → ((j : ℕ) → suc j ≡ view S c i .length → view S c i .epoch j ≤ e)
+      → Appended (view S c i .length) e (view S c i) (view S c (setRecord i (view S c i .length) (good e)))
+  unfolding viewOf setRecord isLost epochOf
+  append-effect e p room x up =
+      let l = logLength (S .m) i in
+      let w : condition (good e) (i .entries l) ≡ Whole = ap (λ (y : Entry). condition (good e) y) x ∙ good-intact e p in
+      record {
+        readable = readable (setRecord i l (good e)) (appended-sound (S .m) i l e sound refl room (ap isLost w) up);
+        was = refl;
+        is = appended-length (S .m) i l e sound refl room;
+        whole = record-condition (S .m) i l (good e) ∙ w;
+        conditions = λ j h. record-condition-other (S .m) i l (good e) j (omega arith);
+        epoch = record-epoch (S .m) i l (good e);
+        epochs = λ j h. record-epoch-other (S .m) i l (good e) j (omega arith);
+      }
+
+  -- an entry behind the log, or a broken one at a faulty slot: the view stays
+  still : (k : ℕ) (x : Entry) → condition (i .records k) x ≡ conditionAt i k → epochOf (i .records k) x ≡ epochAt i k → isLost (conditionAt i k) ≡ false
+      → view S c (setEntry i k x) ≡ view S c i
+  unfolding viewOf setEntry logLength
+  still k x e f l =
+      view-ext (view S c (setEntry i k x)) (view S c i)
+      (readable (setEntry i k x) (entry-sound (S .m) i k x sound (ap isLost e ∙ l) f) ∙ sym ok)
+      refl
+      (λ j. same j (ℕ-discrete j k))
+      (entry-epoch (S .m) i k x f)
+    where
+      same : (j : ℕ) → Dec (j ≡ k) → conditionAt (setEntry i k x) j ≡ conditionAt i j
+      same j (yes q) = rw q (entry-condition (S .m) i k x ∙ e)
+      same j (no q) = entry-condition-other (S .m) i k x j q
+
+  pub torn-effect : (k : ℕ) (b : Bytes) → isFaulty (view S c i .condition k) ≡ true → view S c (setEntry i k (broken b)) ≡ view S c i
+  unfolding viewOf conditionAt epochAt epochOf condition isLost
+  torn-effect k b h =
+      let g = faulty-good (i .records k) (i .entries k) h in
+      let f : conditionAt i k ≡ Faulty = faulty-is (conditionAt i k) h in
+      still k (broken b) (rw (g .is) (sym (rw (g .is) at f))) (rw (g .is)) (ap isLost f)
+
+  -- behind the log any entry may stand
+  pub fill-effect : (k : ℕ) (x : Entry) → view S c i .length ≤ k → k < S .m → view S c (setEntry i k x) ≡ view S c i
+  unfolding viewOf conditionAt epochAt epochOf condition isLost
+  fill-effect k x a b = still k x (rw (sound .tail k a b)) (rw (sound .tail k a b)) (rw (sound .tail k a b))

@@ -1,0 +1,21 @@
+-- The theory of steps: what a store leaves, and how runs end.
+pub mod Effects
+pub mod RuleLaws
+pub mod Due
+pub mod Slots
+pub mod Moves
+pub mod PlanLaws
+pub mod Measure
+pub mod Reach
+pub mod TornLaw
+pub mod Runs
+pub mod Keeps
+pub mod Sources
+pub mod Consistency
+pub mod Outstanding
+pub mod NoTruncation
+pub mod Invariant
+pub mod Always
+pub mod AtRest
+pub mod StepLaws
+pub mod UnlikeLaws

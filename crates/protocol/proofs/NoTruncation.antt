@@ -1,0 +1,115 @@
+-- No truncation at or below a slot that stood committed on a majority: neither by the leader (`end-above`) nor on a holder (`differing-above`).
+use mathlib.Core.Path.{_≡_, refl, sym, ap, _∙_}
+use mathlib.Core.Bool.{Bool, true, false, cond, not, true≢false}
+use Prim.Native.Nat.{ℕ, zero, suc, _+_, _-_, _/_, _≤_, _<_}
+use native.Mathlib.Omega.{arith}
+use native.Mathlib.Decide.{decLt}
+use lib.Dec.{eqb, ltb}
+use borrow.Author.Tests.{eq-eqb, lt-ltb, leb-true, not-true}
+use Rattle.search.specs.Search.{count}
+use Rattle.search.proofs.SearchLaws.{count-disjoint, lowest-passes}
+use Rattle.slices.specs.Parts.{Bytes}
+use Rattle.slices.proofs.SameLaws.{and-left, and-right}
+use Rattle.record.specs.Meaning.{Record, good, blank, bad, Entry, intact, broken}
+use Rattle.image.specs.Cluster.{Cluster}
+use Rattle.image.specs.View.{View, Whole, Faulty, condition, conditionAt, isBlank, viewOf}
+use Rattle.image.proofs.ViewLaws.{used-below}
+use Rattle.planner.specs.Setting.{Setting, viewsOf}
+use Rattle.planner.specs.Rules.{majority, mayTruncate, isUsed, isFaulty, answers, agrees, dontHave, donor, Keep, Fetch, Wait, isTruncate, rule, end}
+use Rattle.protocol.specs.Recovery.{differs, firstDiffering}
+use Rattle.protocol.proofs.Slots.{answers-readable}
+use Rattle.protocol.proofs.Consistency.{Consistent}
+
+-- all that is asked of the rule for a truncation: don't-haves and a majority are together more than n
+truncate-needs : (n d : ℕ) → mayTruncate n d ≡ true → n < majority n + d
+unfolding mayTruncate majority
+truncate-needs n d e = omega (arith, leb-true (n / 2 + 1) d e)
+
+-- slot k of a replica is used under epoch e
+pub record Holding (k e : ℕ) (a : View) : Type 0 where
+  pub within : k < a .length
+  pub epoch : a .epoch k ≡ e
+
+used-condition : (S : Setting) (F : Cluster) (c j : ℕ) → j < viewsOf S F c .length → isUsed (viewsOf S F c .condition j) ≡ true
+unfolding viewsOf viewOf conditionAt condition isBlank isUsed
+used-condition S F c j h = go (F c .records j) (F c .entries j) (used-below (S .m) (F c) j h)
+  where
+    go : (r : Record) (x : Entry) → isBlank r ≡ false → isUsed (condition r x) ≡ true
+    go (good e) (intact f p) b = at (eqb e f)
+      where
+        at : (t : Bool) → isUsed (cond t Whole Faulty) ≡ true
+        at true = refl
+        at false = refl
+    go (good e) (broken y) b = refl
+    go blank x b = absurd (true≢false b)
+    go (bad z) (intact f p) b = refl
+    go (bad z) (broken y) b = refl
+
+module _ (S : Setting) (pay : ℕ → ℕ → Bytes) (prev : ℕ → ℕ → ℕ) (F : Cluster) (i : Consistent S pay prev F) (K e : ℕ)
+    (n : S .leader < S .n) (ok : viewsOf S F (S .leader) .readable ≡ true) (top : Holding K e (viewsOf S F (S .leader))) where
+  -- two logs with the same epoch at slot K have the same epochs below it
+  below : (c : ℕ) → c < S .n → viewsOf S F c .readable ≡ true → Holding K e (viewsOf S F c) → (d j : ℕ) → j + d ≡ K → viewsOf S F c .epoch j ≡ viewsOf S F (S .leader) .epoch j
+  below c cn r h zero j q =
+      let p : j ≡ K = omega arith in
+      rw p (h .epoch ∙ sym (top .epoch))
+  below c cn r h (suc d) j q =
+      let z = below c cn r h d (suc j) (omega arith) in
+      i .chain c j cn r (omega (arith, h .within)) ∙ ap (prev (suc j)) z ∙ sym (i .chain (S .leader) j n ok (omega (arith, top .within)))
+
+  pub same-below : (c : ℕ) → c < S .n → viewsOf S F c .readable ≡ true → Holding K e (viewsOf S F c) → (j : ℕ) → j ≤ K → viewsOf S F c .epoch j ≡ viewsOf S F (S .leader) .epoch j
+  same-below c cn r h j b = below c cn r h (K - j) j (omega arith)
+
+  holder-agrees : (c : ℕ) → c < S .n → viewsOf S F c .readable ≡ true → Holding K e (viewsOf S F c) → (j : ℕ) → j ≤ K → agrees S (viewsOf S F) c j ≡ true
+  unfolding agrees
+  holder-agrees c cn r h j b = rw (used-condition S F c j (omega (arith, h .within)), eq-eqb (viewsOf S F c .epoch j) (viewsOf S F (S .leader) .epoch j) (same-below c cn r h j b))
+
+  -- a holder's first differing slot lies above K
+  pub differing-above : (c : ℕ) → c < S .n → viewsOf S F c .readable ≡ true → Holding K e (viewsOf S F c) → K < firstDiffering S (viewsOf S F) c
+  unfolding firstDiffering differs
+  differing-above c cn r h = go (decLt K (firstDiffering S (viewsOf S F) c))
+    where
+      d : ℕ
+      d = firstDiffering S (viewsOf S F) c
+
+      go : Dec (K < d) → K < d
+      go (yes l) = l
+      go (no l) =
+          let p = lowest-passes (differs S (viewsOf S F) c) (viewsOf S F c .length) (omega (arith, h .within)) in
+          absurd (true≢false (sym (rw (lt-ltb d (viewsOf S F (S .leader) .length) (omega (arith, top .within)), eq-eqb (viewsOf S F c .epoch d) (viewsOf S F (S .leader) .epoch d) (same-below c cn r h d (omega arith))) at p)))
+
+  module _ (hold : ℕ → Bool) (many : majority (S .n) ≤ count hold (S .n))
+      (holds : (c : ℕ) → c < S .n → hold c ≡ true → viewsOf S F c .readable ≡ true → Holding K e (viewsOf S F c)) where
+    -- those who do not have it are too few
+    few : (j : ℕ) → j ≤ K → mayTruncate (S .n) (count (dontHave S (viewsOf S F) j) (S .n)) ≡ false
+    unfolding dontHave
+    few j b = go (mayTruncate (S .n) (count (dontHave S (viewsOf S F) j) (S .n))) refl
+      where
+        apart : (c : ℕ) → c < S .n → dontHave S (viewsOf S F) j c ≡ true → hold c ≡ true → ⊥
+        apart c cn x y =
+            let a = answers-readable S (viewsOf S F) c (and-left (answers S (viewsOf S F) c) (not (agrees S (viewsOf S F) c j)) x) in
+            let z = not-true (agrees S (viewsOf S F) c j) (and-right (answers S (viewsOf S F) c) (not (agrees S (viewsOf S F) c j)) x) in
+            true≢false (sym (holder-agrees c cn a (holds c cn y a) j b) ∙ z)
+
+        go : (t : Bool) → mayTruncate (S .n) (count (dontHave S (viewsOf S F) j) (S .n)) ≡ t → t ≡ false
+        go true e = absurd (omega (arith, many, truncate-needs (S .n) (count (dontHave S (viewsOf S F) j) (S .n)) e, count-disjoint (dontHave S (viewsOf S F) j) hold (S .n) apart))
+        go false e = refl
+
+    pub untruncated : (j : ℕ) → j ≤ K → isTruncate (rule S (viewsOf S F) j) ≡ false
+    unfolding rule isTruncate
+    untruncated j b =
+        rw (few j b) (go (isFaulty (viewsOf S F (S .leader) .condition j)) (ltb (donor S (viewsOf S F) j) (S .n)))
+      where
+        go : (a t : Bool) → isTruncate (cond a (cond t Fetch Wait) Keep) ≡ false
+        go true true = refl
+        go true false = refl
+        go false t = refl
+
+    -- the leader's end lies above K
+    pub end-above : K < end S (viewsOf S F)
+    unfolding end
+    end-above = go (decLt K (end S (viewsOf S F)))
+      where
+        go : Dec (K < end S (viewsOf S F)) → K < end S (viewsOf S F)
+        go (yes l) = l
+        go (no l) =
+            absurd (true≢false (sym (lowest-passes (λ k. isTruncate (rule S (viewsOf S F) k)) (viewsOf S F (S .leader) .length) (omega (arith, top .within))) ∙ untruncated (end S (viewsOf S F)) (omega arith)))

@@ -1,0 +1,143 @@
+-- After a store, each used slot has the epoch and the entry that some readable replica had there before it (`stored-source`).
+use mathlib.Core.Path.{_≡_, refl, sym, ap, _∙_}
+use mathlib.Core.Bool.{true, true≢false}
+use Prim.Native.Nat.{ℕ, suc, _<_}
+use native.Mathlib.Omega.{arith}
+use native.Mathlib.Decide.{ℕ-discrete, decLt}
+use Rattle.search.specs.Search.{put}
+use Rattle.search.proofs.SearchLaws.{put-same}
+use Rattle.record.specs.Meaning.{good, blank, Entry, intact}
+use Rattle.image.specs.Image.{Image, setEntry, setRecord}
+use Rattle.image.specs.Cluster.{Cluster}
+use Rattle.image.specs.View.{logLength, condition, viewOf, conditionAt}
+use Rattle.image.specs.Read.{isWhole}
+use Rattle.image.proofs.ViewLaws.{readable-sound}
+use Rattle.image.proofs.StoreLaws.{entry-at, entry-off, record-off}
+use Rattle.planner.specs.Setting.{Setting, viewsOf}
+use Rattle.planner.specs.Rules.{donor}
+use Rattle.protocol.specs.Store.{Store, afterStore, storeReplica}
+use Rattle.protocol.proofs.Effects.{view, Mended, Appended, blank-effect, mend-effect, write-effect, append-effect, fill-effect}
+use Rattle.protocol.proofs.Due.{ReadyPlan, LeaderDue, FollowerDue, Due, by-leader, by-follower, leader-blank, leader-fetch, leader-write, follower-blank, follower-mend, follower-write, follower-fill, follower-append}
+use Rattle.protocol.proofs.Slots.{answers-readable, fetch-facts, donor-entry, leader-entry, leader-fits, like-entry, below-differing, append-up}
+use Rattle.protocol.proofs.Keeps.{stored-off, Target}
+
+pub record Source (S : Setting) (F G : Cluster) (c k : ℕ) : Type 0 where
+  pub from : ℕ
+  pub below : from < S .n
+  pub ok : viewsOf S F from .readable ≡ true
+  pub within : k < viewsOf S F from .length
+  pub epochs : viewsOf S F from .epoch k ≡ viewsOf S G c .epoch k
+  pub entries : F from .entries k ≡ G c .entries k
+
+module _ (S : Setting) (F : Cluster) (c : ℕ) (i : Image) where
+  from-other : (k d : ℕ) → Target S F d → k < viewsOf S F d .length → viewsOf S F d .epoch k ≡ view S c i .epoch k → F d .entries k ≡ i .entries k → Source S F (put F c i) c k
+  unfolding viewsOf
+  from-other k d t h e x = record { from = d; below = t .below; ok = t .ok; within = h; epochs = rw put-same e; entries = rw put-same x }
+
+module _ (S : Setting) (F : Cluster) (c : ℕ) (t : Target S F c) where
+  blank-source : (l : ℕ) → viewsOf S F c .length ≡ suc l → (k : ℕ) → k < viewsOf S (put F c (setRecord (F c) l blank)) c .length → Source S F (put F c (setRecord (F c) l blank)) c k
+  unfolding viewsOf
+  blank-source l e k h =
+      let x = blank-effect S c (F c) (t .ok) l e in
+      let b : k < l = rw (put-same, x .is) at h in
+      from-other S F c (setRecord (F c) l blank) k c t (omega (arith, e)) (sym (x .epochs k b)) (sym (record-off (F c) l blank k))
+
+  write-source : (j : ℕ) (x : Mended j (view S c (F c)) (view S c (setRecord (F c) j (good (viewsOf S F c .epoch j))))) (k : ℕ)
+      → k < viewsOf S (put F c (setRecord (F c) j (good (viewsOf S F c .epoch j)))) c .length → Source S F (put F c (setRecord (F c) j (good (viewsOf S F c .epoch j)))) c k
+  unfolding viewsOf
+  write-source j x k h =
+      from-other S F c (setRecord (F c) j (good (viewsOf S F c .epoch j))) k c t (rw (put-same, x .lengths) at h) (sym (x .epochs k)) (sym (record-off (F c) j (good (viewsOf S F c .epoch j)) k))
+
+  copy-source : (j d : ℕ) → Target S F d → j < viewsOf S F d .length → viewsOf S F d .epoch j ≡ viewsOf S F c .epoch j → Mended j (view S c (F c)) (view S c (setEntry (F c) j (F d .entries j))) → (k : ℕ)
+      → k < viewsOf S (put F c (setEntry (F c) j (F d .entries j))) c .length → Source S F (put F c (setEntry (F c) j (F d .entries j))) c k
+  unfolding viewsOf
+  copy-source j d u b e x k h = go (ℕ-discrete k j)
+    where
+      y : Entry
+      y = F d .entries j
+
+      go : Dec (k ≡ j) → Source S F (put F c (setEntry (F c) j y)) c k
+      go (yes q) = rw q (from-other S F c (setEntry (F c) j y) j d u b (e ∙ sym (x .epochs j)) (sym (entry-at (F c) j y)))
+      go (no q) = from-other S F c (setEntry (F c) j y) k c t (rw (put-same, x .lengths) at h) (sym (x .epochs k)) (sym (entry-off (F c) j y k q))
+
+  fill-source : (y : Entry) → view S c (setEntry (F c) (viewsOf S F c .length) y) ≡ view S c (F c) → (k : ℕ)
+      → k < viewsOf S (put F c (setEntry (F c) (viewsOf S F c .length) y)) c .length → Source S F (put F c (setEntry (F c) (viewsOf S F c .length) y)) c k
+  unfolding viewsOf
+  fill-source y e k h =
+      let l = viewsOf S F c .length in
+      let b : k < l = rw (put-same, e) at h in
+      from-other S F c (setEntry (F c) l y) k c t b (rw e) (sym (entry-off (F c) l y k (omega arith)))
+
+  append-source : (d v : ℕ) → Target S F d → viewsOf S F c .length < viewsOf S F d .length → viewsOf S F d .epoch (viewsOf S F c .length) ≡ v → F c .entries (viewsOf S F c .length) ≡ F d .entries (viewsOf S F c .length)
+      → Appended (viewsOf S F c .length) v (view S c (F c)) (view S c (setRecord (F c) (viewsOf S F c .length) (good v))) → (k : ℕ)
+      → k < viewsOf S (put F c (setRecord (F c) (viewsOf S F c .length) (good v))) c .length → Source S F (put F c (setRecord (F c) (viewsOf S F c .length) (good v))) c k
+  unfolding viewsOf
+  append-source d v u b e y x k h = go (ℕ-discrete k l)
+    where
+      l : ℕ
+      l = viewsOf S F c .length
+
+      b′ : k < suc l
+      b′ = rw (put-same, x .is) at h
+
+      go : Dec (k ≡ l) → Source S F (put F c (setRecord (F c) l (good v))) c k
+      go (yes q) = rw q (from-other S F c (setRecord (F c) l (good v)) l d u b (e ∙ sym (x .epoch)) (sym y ∙ sym (record-off (F c) l (good v) l)))
+      go (no q) = from-other S F c (setRecord (F c) l (good v)) k c t (omega (arith, b′)) (sym (x .epochs k (omega (arith, b′)))) (sym (record-off (F c) l (good v) k))
+
+-- a whole slot lies in the log
+pub whole-within : (S : Setting) (F : Cluster) (c k : ℕ) → viewsOf S F c .readable ≡ true → k < S .m → isWhole (viewsOf S F c .condition k) ≡ true → k < viewsOf S F c .length
+unfolding viewsOf viewOf conditionAt condition isWhole
+whole-within S F c k ok h w = go (decLt k (logLength (S .m) (F c)))
+  where
+    go : Dec (k < logLength (S .m) (F c)) → k < logLength (S .m) (F c)
+    go (yes l) = l
+    go (no l) = absurd (true≢false (sym (rw (readable-sound (S .present c) (S .m) (F c) ok .tail k (omega arith) h) at w)))
+
+leader-source : (S : Setting) (F : Cluster) (s : Store) → S .leader < S .n → ReadyPlan S (viewsOf S F) → LeaderDue S F s → (k : ℕ) → k < viewsOf S (afterStore s F) (storeReplica s) .length → Source S F (afterStore s F) (storeReplica s) k
+unfolding afterStore storeReplica
+leader-source S F s n r (leader-blank l h e) = blank-source S F (S .leader) (record { below = n; ok = r .leader }) l h
+leader-source S F s n r (leader-fetch j h full e) =
+    let d = fetch-facts S (viewsOf S F) j e in
+    let y = donor-entry S F j d in
+    let u : Target S F (donor S (viewsOf S F) j) = record { below = d .below; ok = answers-readable S (viewsOf S F) (donor S (viewsOf S F) j) (d .asked) } in
+    copy-source S F (S .leader) (record { below = n; ok = r .leader }) j (donor S (viewsOf S F) j) u
+    (whole-within S F (donor S (viewsOf S F) j) j (u .ok) (omega (arith, full, leader-fits S F (S .leader))) (d .whole))
+    (d .epochs)
+    (rw (y .is) (unfold viewsOf in mend-effect S (S .leader) (F (S .leader)) (r .leader) j (y .payload) (d .faulty)))
+leader-source S F s n r (leader-write j h full e) = write-source S F (S .leader) (record { below = n; ok = r .leader }) j (unfold viewsOf in write-effect S (S .leader) (F (S .leader)) (r .leader) j e)
+
+follower-source : (S : Setting) (F : Cluster) (s : Store) → S .leader < S .n → ReadyPlan S (viewsOf S F) → FollowerDue S F s → (k : ℕ) → k < viewsOf S (afterStore s F) (storeReplica s) .length → Source S F (afterStore s F) (storeReplica s) k
+unfolding afterStore storeReplica viewsOf
+follower-source S F s n r (follower-blank c ld cn an l h e) = blank-source S F c (record { below = cn; ok = answers-readable S (viewsOf S F) c an }) l h
+follower-source S F s n r (follower-mend c ld cn an full j h e) =
+    let b = below-differing S (viewsOf S F) c j h in
+    let y = leader-entry S F (r .leader) ld j (b .within) in
+    let z : F (S .leader) .entries j ≡ intact (viewsOf S F c .epoch j) (y .payload) = y .is ∙ ap (λ (v : ℕ). intact v (y .payload)) (sym (b .epochs)) in
+    let t : Target S F c = record { below = cn; ok = answers-readable S (viewsOf S F) c an } in
+    copy-source S F c t j (S .leader) (record { below = n; ok = r .leader }) (b .within) (sym (b .epochs)) (rw z (mend-effect S c (F c) (t .ok) j (y .payload) e))
+follower-source S F s n r (follower-write c ld cn an full j h e) =
+    let t : Target S F c = record { below = cn; ok = answers-readable S (viewsOf S F) c an } in
+    write-source S F c t j (write-effect S c (F c) (t .ok) j e)
+follower-source S F s n r (follower-fill c ld cn an full h e) =
+    let t : Target S F c = record { below = cn; ok = answers-readable S (viewsOf S F) c an } in
+    fill-source S F c t (F (S .leader) .entries (viewsOf S F c .length)) (fill-effect S c (F c) (t .ok) (viewsOf S F c .length) (F (S .leader) .entries (viewsOf S F c .length)) (omega arith) (omega (arith, leader-fits S F (S .leader), h)))
+follower-source S F s n r (follower-append c ld cn an full h e) =
+    let t : Target S F c = record { below = cn; ok = answers-readable S (viewsOf S F) c an } in
+    let y = leader-entry S F (r .leader) ld (viewsOf S F c .length) h in
+    append-source S F c t (S .leader) (viewsOf S F (S .leader) .epoch (viewsOf S F c .length)) (record { below = n; ok = r .leader }) h refl (like-entry S F c e)
+    (append-effect S c (F c) (t .ok) (viewsOf S F (S .leader) .epoch (viewsOf S F c .length)) (y .payload) (omega (arith, leader-fits S F (S .leader), h)) (like-entry S F c e ∙ y .is) (append-up S F c r ld full h))
+
+pub stored-source : (S : Setting) (F : Cluster) (s : Store) → S .leader < S .n → ReadyPlan S (viewsOf S F) → Due S F s → (c k : ℕ) → c < S .n → viewsOf S F c .readable ≡ true
+    → k < viewsOf S (afterStore s F) c .length → Source S F (afterStore s F) c k
+stored-source S F s n r u c k cn ok h = go (ℕ-discrete c (storeReplica s))
+  where
+    at-target : Due S F s → k < viewsOf S (afterStore s F) (storeReplica s) .length → Source S F (afterStore s F) (storeReplica s) k
+    at-target (by-leader e d) h = leader-source S F s n r d k h
+    at-target (by-follower e f d) h = follower-source S F s n r d k h
+
+    go : Dec (c ≡ storeReplica s) → Source S F (afterStore s F) c k
+    go (yes q) = rw q (at-target u (rw q at h))
+    go (no q) =
+        let e = stored-off s F c q in
+        let f : viewsOf S (afterStore s F) c ≡ viewsOf S F c = unfold viewsOf in ap (view S c) e in
+        record { from = c; below = cn; ok = ok; within = rw f at h; epochs = rw f; entries = rw e }

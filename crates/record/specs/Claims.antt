@@ -1,0 +1,46 @@
+-- What document 01 says of headers, records and entries, as claims that the check demands.
+use Prim.Native.Nat.{ℕ, _+_, _^_, _<_, _≤_}
+use mathlib.Core.Path.{_≡_}
+use mathlib.Core.Bool.{true}
+use mathlib.Core.List.{List, _++_}
+use lib.ListN.{length, getD, set}
+use Rattle.slices.specs.Parts.{Bytes}
+use Rattle.checksum.specs.Checksum.{checksumOf}
+use Rattle.column.specs.Column.{column}
+use Rattle.record.specs.Layout.{headerBytes, recordBytes, entryBytes}
+use Rattle.record.specs.Meaning.{Header, proper, Record, good, Entry, intact, broken, isEpoch, readHeader, readRecord, readEntry}
+use Rattle.record.specs.Exactly.{HeaderIs, RecordIs, EntryIs}
+
+-- the judges say exactly what 01 says: good, blank, bad; intact or not; the writer's header or not
+pub record Exact : Type 0 where
+  pub header-is : (c n m : ℕ) (b : Bytes) → HeaderIs c n m b (readHeader c n m b)
+  pub header-only : (c n m : ℕ) (b : Bytes) (h : Header) → HeaderIs c n m b h → readHeader c n m b ≡ h
+  pub record-is : (k : ℕ) (b : Bytes) → RecordIs k b (readRecord k b)
+  pub record-only : (k : ℕ) (b : Bytes) (r : Record) → RecordIs k b r → readRecord k b ≡ r
+  pub entry-is : (k : ℕ) (b : Bytes) → EntryIs k b (readEntry k b)
+  pub entry-only : (k : ℕ) (b : Bytes) (x : Entry) → EntryIs k b x → readEntry k b ≡ x
+
+-- what is written is read back, and determines what it was written from
+pub record RoundTrip : Type 0 where
+  pub header-back : (c n m : ℕ) → readHeader c n m (headerBytes c n m) ≡ proper
+  pub record-back : (k e : ℕ) → isEpoch e ≡ true → readRecord k (recordBytes e k) ≡ good e
+  pub entry-back : (k e : ℕ) (p : Bytes) → isEpoch e ≡ true → length p ≤ 200 → readEntry k (entryBytes e k p) ≡ intact e p
+  pub header-determined : (c n m c′ n′ m′ : ℕ) → c < 1000 → n < 1000 → m < 1000 → c′ < 1000 → n′ < 1000 → m′ < 1000
+      → headerBytes c n m ≡ headerBytes c′ n′ m′ → (c ≡ c′) × (n ≡ n′) × (m ≡ m′)
+  pub record-determined : (e k e′ k′ : ℕ) → e < 10 ^ 11 → k < 10 ^ 11 → e′ < 10 ^ 11 → k′ < 10 ^ 11
+      → recordBytes e k ≡ recordBytes e′ k′ → (e ≡ e′) × (k ≡ k′)
+  pub entry-determined : (e k : ℕ) (p : Bytes) (e′ k′ : ℕ) (p′ : Bytes) → e < 10 ^ 11 → k < 10 ^ 11 → length p ≤ 200
+      → e′ < 10 ^ 11 → k′ < 10 ^ 11 → length p′ ≤ 200 → entryBytes e k p ≡ entryBytes e′ k′ p′ → (e ≡ e′) × (k ≡ k′) × (p ≡ p′)
+
+-- an intact entry with one or two payload bytes changed is never intact, for no index: every epoch, payload and pair of changes
+pub record ChangedPayload : Type 0 where
+  pub changed : (k e : ℕ) (p b : Bytes) (i j x y k′ : ℕ) → readEntry k b ≡ intact e p → i < length p → j < length p
+      → getD b (26 + i) 0 < 256 → getD b (26 + j) 0 < 256 → x < 256 → y < 256
+      → ¬ (set (set b (26 + i) x) (26 + j) y ≡ b)
+      → readEntry k′ (set (set b (26 + i) x) (26 + j) y) ≡ broken (set (set b (26 + i) x) (26 + j) y)
+  -- the bytes changed are the payload's
+  pub payload-byte : (k e : ℕ) (p b : Bytes) (j : ℕ) → readEntry k b ≡ intact e p → j < length p → getD b (26 + j) 0 ≡ getD p j 0
+
+-- starred: the checksum in the record of epoch 1, index 1
+pub record RecordReference : Type 0 where
+  pub of-one-one : checksumOf (column 11 1 ++ column 11 1) ≡ 546505443

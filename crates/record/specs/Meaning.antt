@@ -1,0 +1,67 @@
+-- What a header, a record or an entry means. Bytes that mean nothing are kept, so that the writer gives every byte back.
+use Prim.Native.Nat.{ℕ}
+use mathlib.Core.Bool.{Bool, cond, _&&_}
+use lib.Dec.{leb}
+use lib.ListN.{length}
+use Rattle.slices.specs.Parts.{Bytes, part}
+use Rattle.slices.specs.Same.{same}
+use Rattle.column.specs.Column.{valueOf}
+use Rattle.record.specs.Layout.{headerBytes, recordBytes, blankRecord, entryBytes}
+
+-- 01's head: the writer's for this replica, n and m, or other bytes
+pub data Header : Type 0 where
+  proper : Header
+  improper : Bytes → Header
+
+-- 01's line: good with its epoch, blank, or bad
+pub data Record : Type 0 where
+  good : ℕ → Record
+  blank : Record
+  bad : Bytes → Record
+
+-- 01's cell: intact with its epoch and payload, or not
+pub data Entry : Type 0 where
+  intact : ℕ → Bytes → Entry
+  broken : Bytes → Entry
+
+-- epochs are 1 to 4,294,967,295
+unfoldable pub isEpoch : ℕ → Bool
+isEpoch e = leb 1 e && leb e 4294967295
+
+unfoldable pub readHeader : ℕ → ℕ → ℕ → Bytes → Header
+readHeader c n m b = cond (same b (headerBytes c n m)) proper (improper b)
+
+unfoldable pub writeHeader : ℕ → ℕ → ℕ → Header → Bytes
+writeHeader c n m proper = headerBytes c n m
+writeHeader c n m (improper b) = b
+
+-- judged by writing: the only epoch that the columns could mean, and what the writer writes for it
+unfoldable pub isGood : ℕ → ℕ → Bytes → Bool
+isGood k e b = isEpoch e && same b (recordBytes e k)
+
+unfoldable pub recordEpoch : Bytes → ℕ
+recordEpoch b = valueOf (part b 0 11)
+
+unfoldable pub readRecord : ℕ → Bytes → Record
+readRecord k b = cond (isGood k (recordEpoch b) b) (good (recordEpoch b)) (cond (same b blankRecord) blank (bad b))
+
+unfoldable pub writeRecord : ℕ → Record → Bytes
+writeRecord k (good e) = recordBytes e k
+writeRecord k blank = blankRecord
+writeRecord k (bad b) = b
+
+unfoldable pub isIntact : ℕ → ℕ → Bytes → Bytes → Bool
+isIntact k e p b = isEpoch e && (leb (length p) 200 && same b (entryBytes e k p))
+
+unfoldable pub entryEpoch : Bytes → ℕ
+entryEpoch b = valueOf (part b 0 11)
+
+unfoldable pub entryPayload : Bytes → Bytes
+entryPayload b = part b 26 (valueOf (part b 22 4))
+
+unfoldable pub readEntry : ℕ → Bytes → Entry
+readEntry k b = cond (isIntact k (entryEpoch b) (entryPayload b) b) (intact (entryEpoch b) (entryPayload b)) (broken b)
+
+unfoldable pub writeEntry : ℕ → Entry → Bytes
+writeEntry k (intact e p) = entryBytes e k p
+writeEntry k (broken b) = b

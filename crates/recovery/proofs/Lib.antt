@@ -1,0 +1,9 @@
+-- Laws that the proofs of this crate, and of the crates above it, cite.
+pub mod OffsetLaws
+pub mod MadeLaws
+pub mod LookLaws
+pub mod NextLaws
+pub mod FollowerLaws
+pub mod OutlookLaws
+pub mod OutcomeLaws
+pub mod Underway

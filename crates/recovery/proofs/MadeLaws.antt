@@ -1,0 +1,50 @@
+-- A store that is made is the one that the enum names.
+use Prim.Native.Nat.{ℕ, suc, _+_}
+use mathlib.Core.Path.{_≡_, refl}
+use mathlib.Core.Bool.{true, false}
+use mathlib.Core.List.{List, [], _∷_}
+use types.Run.{OneOf, miss}
+use denote.Enum.Declared.{tagOf}
+use Rattle.slices.specs.Parts.{Bytes, part, spliced}
+use Rattle.record.specs.Layout.{recordBytes, blankRecord}
+use Rattle.image.specs.Image.{recordAt, entryAt}
+use Rattle.image.specs.Cluster.{imageAt}
+use Rattle.protocol.specs.Recovery.{after, isSome}
+use Rattle.protocol.specs.StepBytes.{afterStoreBytes}
+use Rattle.recovery.specs.NextStore.{storeOf}
+use Rattle.recovery.specs.declared.NextStore.{NextStore}
+use Rattle.recovery.specs.declared.NextStore.the-variants.{Nothing, Entry, Record, Blank}
+use Rattle.recovery.proofs.NextStore.{the-type}
+
+module _ (m : ℕ) (b : Bytes) where
+  pub nothing-made : {s : NextStore} → s ≡ Nothing → b ≡ after (storeOf s) b (λ t. afterStoreBytes m t b)
+  unfolding after
+  nothing-made e = rw e
+
+  pub entry-made : {s : NextStore} {c k d : ℕ} {a : Bytes} → s ≡ Entry c k d → a ≡ spliced b (imageAt m c + entryAt m k) (part b (imageAt m d + entryAt m k) 240)
+      → a ≡ after (storeOf s) b (λ t. afterStoreBytes m t b)
+  unfolding after afterStoreBytes
+  entry-made e h = rw e h
+
+  pub record-made : {s : NextStore} {c k e : ℕ} {a : Bytes} → s ≡ Record c k e → a ≡ spliced b (imageAt m c + recordAt k) (recordBytes e (suc k))
+      → a ≡ after (storeOf s) b (λ t. afterStoreBytes m t b)
+  unfolding after afterStoreBytes
+  record-made e h = rw e h
+
+  pub blank-made : {s : NextStore} {c k : ℕ} {a : Bytes} → s ≡ Blank c k → a ≡ spliced b (imageAt m c + recordAt k) blankRecord
+      → a ≡ after (storeOf s) b (λ t. afterStoreBytes m t b)
+  unfolding after afterStoreBytes
+  blank-made e h = rw e h
+
+-- nothing, and a store
+
+pub is-none : {s : NextStore} → s ≡ Nothing → false ≡ isSome (storeOf s)
+unfolding isSome
+is-none e = rw e
+
+pub is-some : (s : NextStore) → OneOf (1 ∷ 2 ∷ 3 ∷ []) (tagOf the-type s) → true ≡ isSome (storeOf s)
+unfolding isSome
+is-some Nothing h = absurd (miss (1 ∷ 2 ∷ 3 ∷ []) 0 tt h)
+is-some (Entry c k d) h = refl
+is-some (Record c k e) h = refl
+is-some (Blank c k) h = refl

@@ -1,0 +1,174 @@
+-- Step and run answer by what stands of the recovery.
+use Prim.Native.Nat.{ℕ, zero, suc, pred, _+_, _≤_, _<_}
+use mathlib.Core.Path.{_≡_, refl, sym, ap, _∙_}
+use mathlib.Core.Bool.{true, false}
+use mathlib.Core.List.{List, [], _∷_}
+use mathlib.Core.Option.{Option, none, some}
+use native.Mathlib.Omega.{arith}
+use native.Mathlib.Numerals.{add-one}
+use types.Run.{OneOf, miss}
+use denote.Enum.Declared.{tagOf}
+use lib.Dec.{leb}
+use lib.ListN.{length}
+use borrow.Author.Tests.{leb-true}
+use Rattle.slices.specs.Parts.{Bytes}
+use Rattle.slices.proofs.SameLaws.{and-right}
+use Rattle.image.specs.View.{isSlots}
+use Rattle.image.specs.Image.{imageSize}
+use Rattle.image.specs.Cluster.{imageAt, decode}
+use Rattle.image.proofs.ClusterLaws.{image-fits}
+use Rattle.planner.specs.Setting.{Setting, settingOf}
+use Rattle.planner.specs.Rules.{Waiting, Ready, answer, end}
+use Rattle.planner.specs.Plan.{viewsIn}
+use Rattle.protocol.specs.Store.{Store, storeEntry, storeRecord, storeBlank, storeReplica, storeSlot, storeKind}
+use Rattle.protocol.specs.Recovery.{after, isSome}
+use Rattle.protocol.specs.StepBytes.{afterStoreBytes, nextIn, stepsBytes, storesBytes}
+use Rattle.protocol.specs.Call.{step, run, Numbers, named, refusalIn}
+use Rattle.protocol.specs.CallResult.{Result, refused, waiting, stored, recovered, spent, stepResult, runResult, callResult, callBytes}
+use Rattle.recovery.specs.NextStore.{storeOf, ImageFits, StoreFits}
+use Rattle.recovery.specs.Answers.{OutlookIs}
+use Rattle.recovery.specs.declared.NextStore.{NextStore}
+use Rattle.recovery.specs.declared.NextStore.the-variants.{Nothing, Entry, Record, Blank}
+use Rattle.recovery.specs.declared.Outlook.{Outlook}
+use Rattle.recovery.specs.declared.Outlook.the-variants as outlook
+use Rattle.recovery.proofs.Outlook.{the-type}
+use Rattle.protocol.proofs.Due.{due-facts}
+use Rattle.protocol.proofs.Keeps.{due-target, due-slot, due-donor}
+use Rattle.recovery.proofs.OffsetLaws.{image-code}
+use Rattle.demand3.proofs.CallLaws.{accepted, step-refused, step-kept, run-refused, run-kept, step-bytes, run-bytes}
+use Rattle.demand3.proofs.AfterCalls.{waiting-none}
+use Rattle.demand3.proofs.RunLaws.{steps-still, still-waiting, ready-run, ready-step}
+
+-- ---- a store that is outstanding lies in the cluster
+
+module _ (N : Numbers) (b : Bytes) (e : refusalIn N b ≡ 0) where
+  pub slots-few : N .m ≤ 64
+  unfolding isSlots
+  slots-few = leb-true (N .m) 64 (and-right (leb 1 (N .m)) (leb (N .m) 64) (accepted N b e .slots))
+
+  within : (c : ℕ) → c < named N .n → ImageFits (N .m) (length b) c
+  unfolding settingOf
+  within c h = omega (arith, image-fits (N .n) (N .m) c h, accepted N b e .size)
+
+  pub store-fits : (s : NextStore) → storeOf s ≡ nextIn (named N) b → StoreFits (N .m) (length b) s
+  unfolding nextIn storeReplica storeSlot settingOf
+  store-fits Nothing x = tt
+  store-fits (Entry c k d) x =
+      let F = decode (named N .n) (named N .m) b in
+      let u = due-facts (named N) F (storeEntry c k d) (sym x) in
+      let low = accepted N b e .low in (
+        due-slot (named N) F (storeEntry c k d) (u .is-due),
+        within c (due-target (named N) F (storeEntry c k d) low (u .plan) (u .is-due) .below),
+        within d (due-donor (named N) F c k d low (u .is-due)),
+      )
+  store-fits (Record c k f) x =
+      let F = decode (named N .n) (named N .m) b in
+      let u = due-facts (named N) F (storeRecord c k f) (sym x) in
+      let low = accepted N b e .low in
+      (due-slot (named N) F (storeRecord c k f) (u .is-due), within c (due-target (named N) F (storeRecord c k f) low (u .plan) (u .is-due) .below))
+  store-fits (Blank c k) x =
+      let F = decode (named N .n) (named N .m) b in
+      let u = due-facts (named N) F (storeBlank c k) (sym x) in
+      let low = accepted N b e .low in
+      (due-slot (named N) F (storeBlank c k) (u .is-due), within c (due-target (named N) F (storeBlank c k) low (u .plan) (u .is-due) .below))
+
+-- a larger buffer holds what a smaller one does
+pub fits-more : (m a b : ℕ) (s : NextStore) → a ≤ b → StoreFits m a s → StoreFits m b s
+fits-more m a b Nothing h f = tt
+fits-more m a b (Entry c k d) h f = (f .0, omega arith, omega arith)
+fits-more m a b (Record c k e) h f = (f .0, omega arith)
+fits-more m a b (Blank c k) h f = (f .0, omega arith)
+
+-- a replica's number is not too large
+pub replica-few : (m c : ℕ) → ImageFits m 18446744073709551615 c → c + 1 < 18446744073709551616
+replica-few m c f = omega (arith, image-code m c)
+
+-- ---- the store by its numbers
+
+pub answer-nothing : {s : NextStore} → s ≡ Nothing → recovered 0 ≡ stepResult (storeOf s)
+unfolding stepResult
+answer-nothing e = rw e
+
+module _ (c k : ℕ) where
+  pub answer-entry : {s : NextStore} {d : ℕ} → s ≡ Entry c k d → stored (c + 1) (k + 1) 1 ≡ stepResult (storeOf s)
+  unfolding stepResult storeReplica storeSlot storeKind
+  answer-entry e = rw (e, add-one c, add-one k)
+
+  pub answer-record : {s : NextStore} {f : ℕ} → s ≡ Record c k f → stored (c + 1) (k + 1) 2 ≡ stepResult (storeOf s)
+  unfolding stepResult storeReplica storeSlot storeKind
+  answer-record e = rw (e, add-one c, add-one k)
+
+  pub answer-blank : {s : NextStore} → s ≡ Blank c k → stored (c + 1) (k + 1) 3 ≡ stepResult (storeOf s)
+  unfolding stepResult storeReplica storeSlot storeKind
+  answer-blank e = rw (e, add-one c, add-one k)
+
+-- ---- by what stands of the recovery
+
+module _ (N : Numbers) (b : Bytes) where
+  pub outlook-none : (o : Outlook) → OutlookIs N b o → OneOf (0 ∷ 1 ∷ []) (tagOf the-type o) → refusalIn N b ≡ 0 → none ≡ nextIn (named N) b
+  unfolding nextIn
+  outlook-none (outlook.Refused r) i t e = absurd (i .1 (sym (i .0) ∙ e))
+  outlook-none (outlook.Waiting k) i t e = sym (waiting-none (named N) b (pred k) (i .2))
+  outlook-none (outlook.Ready s) i t e = absurd (miss (0 ∷ 1 ∷ []) 2 tt t)
+
+  module _ {o : Outlook} {r : ℕ} (q : o ≡ outlook.Refused r) (i : OutlookIs N b o) where
+    off : OutlookIs N b (outlook.Refused r)
+    off = rw q at i
+
+    no : refusalIn N b ≡ 0 → ⊥
+    no e = off .1 (sym (off .0) ∙ e)
+
+    pub refused-step : refused r ≡ callResult N step b
+    refused-step = ap refused (sym (off .0)) ∙ sym (step-refused N b no)
+
+    pub refused-step-bytes : b ≡ callBytes N step b
+    refused-step-bytes = sym (step-kept N b no)
+
+    pub refused-run : (j : ℕ) → refused r ≡ callResult N (run j) b
+    refused-run j = ap refused (sym (off .0)) ∙ sym (run-refused N b no j)
+
+    pub refused-run-bytes : (j : ℕ) → b ≡ callBytes N (run j) b
+    refused-run-bytes j = sym (run-kept N b no j)
+
+  module _ {o : Outlook} {k : ℕ} (q : o ≡ outlook.Waiting k) (i : OutlookIs N b o) where
+    at : OutlookIs N b (outlook.Waiting k)
+    at = rw q at i
+
+    from : k ≡ suc (pred k)
+    from = let h = at .1 in omega arith
+
+    pub waiting-step : waiting k ≡ callResult N step b
+    waiting-step = ap waiting from ∙ sym (still-waiting N b (at .0) (pred k) (at .2) .steps)
+
+    pub waiting-step-bytes : b ≡ callBytes N step b
+    unfolding nextIn
+    waiting-step-bytes = sym (step-bytes N b (at .0) ∙ steps-still (named N) 1 b (waiting-none (named N) b (pred k) (at .2)))
+
+    pub waiting-run : (j : ℕ) → waiting k ≡ callResult N (run j) b
+    waiting-run j = ap waiting from ∙ sym (still-waiting N b (at .0) (pred k) (at .2) .runs j)
+
+    pub waiting-run-bytes : (j : ℕ) → b ≡ callBytes N (run j) b
+    waiting-run-bytes j = sym (still-waiting N b (at .0) (pred k) (at .2) .bytes j)
+
+  module _ {o : Outlook} {s : NextStore} (q : o ≡ outlook.Ready s) (i : OutlookIs N b o) where
+    is : OutlookIs N b (outlook.Ready s)
+    is = rw q at i
+
+    pub ready-accepts : refusalIn N b ≡ 0
+    ready-accepts = is .0
+
+    pub ready-next : storeOf s ≡ nextIn (named N) b
+    ready-next = is .2
+
+    pub ready-stepped : {r : Result} → r ≡ stepResult (storeOf s) → r ≡ callResult N step b
+    ready-stepped h = h ∙ ap stepResult (is .2) ∙ sym (ready-step N b (is .0) _ (is .1))
+
+    pub ready-step-bytes : {a : Bytes} → a ≡ after (storeOf s) b (λ t. afterStoreBytes (N .m) t b) → a ≡ callBytes N step b
+    unfolding stepsBytes settingOf
+    ready-step-bytes h = h ∙ sym (step-bytes N b (is .0) ∙ ap (λ (x : Option Store). after x b (λ t. afterStoreBytes (N .m) t b)) (sym (is .2)))
+
+    pub ready-ran : {r : Result} (j : ℕ) → r ≡ runResult (storesBytes (named N) j b) (nextIn (named N) (stepsBytes (named N) j b)) → r ≡ callResult N (run j) b
+    ready-ran j h = h ∙ sym (ready-run N b (is .0) _ (is .1) j)
+
+    pub ready-run-bytes : {a : Bytes} (j : ℕ) → a ≡ stepsBytes (named N) j b → a ≡ callBytes N (run j) b
+    ready-run-bytes j h = h ∙ sym (run-bytes N b (is .0) j)

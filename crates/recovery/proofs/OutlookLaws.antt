@@ -1,0 +1,98 @@
+-- What stands of a recovery, as the code comes to it.
+use Prim.Native.Nat.{ℕ, pred, _+_, _-_, _^_, _≤_, _<_}
+use mathlib.Core.Path.{_≡_, refl, sym, ap, _∙_}
+use mathlib.Core.Bool.{true, not, _&&_}
+use mathlib.Core.List.{List}
+use mathlib.Core.Option.{Option}
+use native.Mathlib.Omega.{arith}
+use lib.Dec.{eqb, leb, ltb}
+use lib.ListN.{length, getD}
+use borrow.Author.Tests.{leb-true, not-false, lt-ltb, le-ltb}
+use Rattle.slices.specs.Parts.{Bytes}
+use Rattle.slices.proofs.SameLaws.{and-left}
+use Rattle.image.specs.Refusal.{refuse}
+use Rattle.image.specs.View.{isSize, isReplica, isSlots}
+use Rattle.image.proofs.RefusalLaws.{refuse-zero, else-zero-r}
+use Rattle.image.specs.Cluster.{imageAt, decode}
+use Rattle.planner.specs.Setting.{Setting, settingOf, has, viewsOf}
+use Rattle.planner.specs.Rules.{Waiting, Ready, answer, end, firstWaiting}
+use Rattle.planner.specs.Plan.{viewsIn, clusterRefusal}
+use Rattle.planner.specs.Survey.{SurveyOf, Planned}
+use Rattle.protocol.specs.Store.{Store}
+use Rattle.protocol.specs.Recovery.{_or_, leaderStore, followersStore, ifReady, next}
+use Rattle.protocol.specs.StepBytes.{nextIn}
+use Rattle.protocol.specs.Call.{Numbers, named, refusalIn}
+use Rattle.recovery.specs.NextStore.{storeOf}
+use Rattle.recovery.specs.Look.{InRange}
+use Rattle.recovery.specs.Answers.{OutlookIs}
+use Rattle.recovery.specs.declared.NextStore.{NextStore}
+use Rattle.recovery.specs.declared.Outlook.the-variants as outlook
+use Rattle.recovery.proofs.LookLaws.{end-within}
+use Rattle.recovery.proofs.FollowerLaws.{log-within}
+use Rattle.demand3.proofs.CallLaws.{accepted}
+
+-- the leader's number is from 1
+pub from-one : (N : Numbers) (b : Bytes) → refusalIn N b ≡ 0 → 1 ≤ N .leader
+unfolding clusterRefusal isReplica
+from-one N b e =
+    let r = viewsIn (named N) b (pred (N .leader)) .readable in
+    let e₁ = else-zero-r (refuse 1 (not (isSlots (N .m)))) _ e in
+    let e₂ = else-zero-r (refuse 2 (not (isSize (N .n)))) _ e₁ in
+    let e₃ = else-zero-r (refuse 3 (not (eqb (length b) (imageAt (N .m) (N .n))))) _ e₂ in
+    let e₄ = else-zero-r (refuse 11 (not (ltb (N .present) (2 ^ N .n)))) _ e₃ in
+    let t = not-false (leb 1 (N .leader) && leb (N .leader) (N .n) && r) (refuse-zero 11 _ e₄) in
+    leb-true 1 (N .leader) (and-left (leb 1 (N .leader)) (leb (N .leader) (N .n)) (and-left (leb 1 (N .leader) && leb (N .leader) (N .n)) r t))
+
+pub named-m : (N : Numbers) → named N .m ≡ N .m
+unfolding settingOf
+named-m N = refl
+
+module _ (N : Numbers) (b : Bytes) (e : refusalIn N b ≡ 0) {readable : ℕ} {lengths conditions epochs : List ℕ}
+    (s : SurveyOf (named N) (viewsIn (named N) b) (N .n) (N .leader - 1) readable lengths conditions epochs) where
+  log-is : (c : ℕ) → c < N .n → viewsIn (named N) b c .readable ≡ true → getD lengths c 0 ≤ N .m
+  unfolding settingOf
+  log-is c h r = omega (arith, s .surveyed .length-is c h r, log-within (named N) b c)
+
+  pub in-range : InRange (N .n) (N .m) (N .leader - 1) readable lengths (length b)
+  unfolding settingOf
+  in-range = record {
+    few = s .few;
+    slots-fit = s .slots-fit;
+    leader-below = s .leader-below;
+    size-is = accepted N b e .size;
+    leader-fits = log-is (N .leader - 1) (s .leader-below) (s .leader-reads);
+    log-fits = λ c h r. log-is c h (sym (s .surveyed .readable-is c h) ∙ r);
+  }
+
+  module _ {bytes : List ℕ} {final waiting : ℕ} (p : Planned (named N) (viewsIn (named N) b) bytes final waiting) where
+    pub end-fits : final ≤ 64
+    unfolding settingOf
+    end-fits =
+        let a = p .end-is in
+        let d = end-within (named N) (viewsIn (named N) b) in
+        let l = log-within (named N) b (named N .leader) in
+        let k = s .slots-fit in
+        omega arith
+
+    leads : viewsIn (named N) b (named N .leader) .readable ≡ true
+    leads = accepted N b e .readable
+
+    pub waits : waiting < final → OutlookIs N b (outlook.Waiting (waiting + 1))
+    unfolding answer
+    waits h =
+        let a = p .end-is in
+        let w = p .waiting-is in
+        let q : pred (waiting + 1) ≡ waiting = omega arith in
+        (e, omega arith, rw (q, leads, lt-ltb (firstWaiting (named N) (viewsIn (named N) b)) (end (named N) (viewsIn (named N) b)) (omega arith)) (ap Waiting (sym w)))
+
+    is-ready : final ≤ waiting → answer (named N) (viewsIn (named N) b) ≡ Ready (end (named N) (viewsIn (named N) b))
+    unfolding answer
+    is-ready h =
+        let a = p .end-is in
+        let w = p .waiting-is in
+        rw (leads, le-ltb (firstWaiting (named N) (viewsIn (named N) b)) (end (named N) (viewsIn (named N) b)) (omega arith))
+
+    pub readies : final ≤ waiting → (t : NextStore)
+        → storeOf t ≡ (leaderStore (named N) (viewsIn (named N) b) or followersStore (named N) (decode (named N .n) (named N .m) b)) → OutlookIs N b (outlook.Ready t)
+    unfolding nextIn next ifReady viewsIn
+    readies h t x = let r = is-ready h in (e, r, x ∙ rw r)

@@ -1,0 +1,4 @@
+-- What the contracts of `recovery` cite.
+pub mod NextStore
+pub mod Look
+pub mod Answers

@@ -1,0 +1,40 @@
+// Recovery: the first store still outstanding, steps and runs.
+pub mod store; // store.rt: a store made on the cluster's bytes
+pub mod next; // next.rt: the first store still outstanding, of what is seen of the replicas
+pub mod step; // step.rt: one step
+pub mod run; // run.rt: a run of steps
+
+// The first store still outstanding, if there is one. An entry: replica, slot, and the replica that it is copied from. A record:
+// replica, slot and epoch. A record blanked: replica and slot. Replicas and slots count from 0.
+pub enum NextStore {
+    Nothing,
+    Entry(usize, usize, usize),
+    Record(usize, usize, u32),
+    Blank(usize, usize),
+}
+
+// What stands of a cluster's recovery: refused by this number; waiting, with the lowest waiting slot's number; or ready, with the first
+// store still outstanding.
+pub enum Outlook {
+    Refused(u8),
+    Waiting(usize),
+    Ready(NextStore),
+}
+
+// A step's answer: the store that it made, by replica, slot and kind (1 entry, 2 record, 3 record blanked); document 01's settled; waiting,
+// with the lowest waiting slot; or the refusal. Replicas and slots by their numbers, from 1.
+pub enum StepAnswer {
+    Stored(usize, usize, u8),
+    Recovered,
+    Waiting(usize),
+    Refused(u8),
+}
+
+// A run's answer: settled, or its budget spent and a store outstanding, each with the number of stores that it made; waiting, with the
+// lowest waiting slot; or the refusal.
+pub enum RunAnswer {
+    Recovered(u64),
+    Spent(u64),
+    Waiting(usize),
+    Refused(u8),
+}

@@ -1,0 +1,4 @@
+-- What the contracts of `report` cite.
+pub mod Command
+pub mod Report
+pub mod Lines

@@ -1,0 +1,61 @@
+use Rattle.ropelog.proofs.ClusterCallLaws.{step-answered}
+use borrow.Author.Needs.{needs}
+use Rattle.ropelog.proofs.clusters.rope_step.Statement.{statement}
+use Rattle.ropelog.proofs.clusters.rope_step.Tie as tie
+
+step-cluster-requires : tie.Need-step-cluster-requires
+step-cluster-requires c κs = search needs
+
+enum-known-on : tie.Need-enum-known-on
+enum-known-on c = search needs
+
+enum-told : tie.Need-enum-told
+enum-told c = search needs
+
+enum-known-waiting : tie.Need-enum-known-waiting
+enum-known-waiting c = search needs
+
+enum-known-refusal : tie.Need-enum-known-refusal
+enum-known-refusal c = search needs
+
+same-length : tie.Need-same-length
+same-length c = search needs
+
+returns : tie.Need-returns
+returns c = step-answered _ _ _ _ _ (c .before .on .given .1) (c .before .before .before .before .before .step-cluster .ensures .0) (c .before .before .before .before .before .step-cluster .ensures .1) _ _ _ _
+
+same-length-2 : tie.Need-same-length-2
+same-length-2 c = search needs
+
+returns-2 : tie.Need-returns-2
+returns-2 c = step-answered _ _ _ _ _ (c .enum-told .given .1) (c .before .before .before .before .step-cluster .ensures .0) (c .before .before .before .before .step-cluster .ensures .1) _ _ _ _
+
+same-length-3 : tie.Need-same-length-3
+same-length-3 c = search needs
+
+returns-3 : tie.Need-returns-3
+returns-3 c = step-answered _ _ _ _ _ (c .before .waiting .given .1) (c .before .before .before .before .before .step-cluster .ensures .0) (c .before .before .before .before .before .step-cluster .ensures .1) _ _ _ _
+
+same-length-4 : tie.Need-same-length-4
+same-length-4 c = search needs
+
+returns-4 : tie.Need-returns-4
+returns-4 c = step-answered _ _ _ _ _ (c .before .refusal .given .1) (c .before .before .before .before .before .step-cluster .ensures .0) (c .before .before .before .before .before .step-cluster .ensures .1) _ _ _ _
+
+pub rope-step-spec : {M : Type 1} → statement M
+rope-step-spec =
+    tie.close
+    (tie.spec
+    step-cluster-requires
+    enum-known-on
+    enum-told
+    enum-known-waiting
+    enum-known-refusal
+    same-length
+    returns
+    same-length-2
+    returns-2
+    same-length-3
+    returns-3
+    same-length-4
+    returns-4)

@@ -1,0 +1,68 @@
+-- What the calls about a cluster hand out.
+use Prim.Native.Nat.{ℕ, suc}
+use Rattle.planner.specs.Rules.{Answer, Refused, Waiting, Ready}
+use Rattle.protocol.specs.CallResult.{Result, refused, waiting, ready, stored, recovered, spent}
+
+-- 0 ready, 1 waiting; a refused call hands nothing out
+unfoldable pub planStatus : Answer → ℕ
+planStatus Refused = 0
+planStatus (Waiting k) = 1
+planStatus (Ready l) = 0
+
+-- the final length, or the lowest waiting slot's number, from 1
+unfoldable pub planNumber : Answer → ℕ
+planNumber Refused = 0
+planNumber (Waiting k) = suc k
+planNumber (Ready l) = l
+
+-- the refusal in what a step or run answers; 0 if it is none
+abbrev pub resultRefusal : Result → ℕ
+resultRefusal (refused r) = r
+resultRefusal (waiting k) = 0
+resultRefusal (ready l) = 0
+resultRefusal (stored c k kind) = 0
+resultRefusal (recovered count) = 0
+resultRefusal (spent count) = 0
+
+-- 0 no store is outstanding, 1 waiting, 2 one is made (a step) or is still outstanding (a run)
+abbrev pub resultStatus : Result → ℕ → ℕ
+resultStatus (refused r) old = old
+resultStatus (waiting k) old = 1
+resultStatus (ready l) old = 0
+resultStatus (stored c k kind) old = 2
+resultStatus (recovered count) old = 0
+resultStatus (spent count) old = 2
+
+-- a store's replica, slot and kind, and the waiting slot, by their numbers; elsewhere what was there
+abbrev pub resultReplica : Result → ℕ → ℕ
+resultReplica (refused r) old = old
+resultReplica (waiting k) old = old
+resultReplica (ready l) old = old
+resultReplica (stored c k kind) old = c
+resultReplica (recovered count) old = old
+resultReplica (spent count) old = old
+
+abbrev pub resultSlot : Result → ℕ → ℕ
+resultSlot (refused r) old = old
+resultSlot (waiting k) old = k
+resultSlot (ready l) old = old
+resultSlot (stored c k kind) old = k
+resultSlot (recovered count) old = old
+resultSlot (spent count) old = old
+
+abbrev pub resultKind : Result → ℕ → ℕ
+resultKind (refused r) old = old
+resultKind (waiting k) old = old
+resultKind (ready l) old = old
+resultKind (stored c k kind) old = kind
+resultKind (recovered count) old = old
+resultKind (spent count) old = old
+
+-- how many stores a run made
+abbrev pub resultStores : Result → ℕ → ℕ
+resultStores (refused r) old = old
+resultStores (waiting k) old = old
+resultStores (ready l) old = old
+resultStores (stored c k kind) old = old
+resultStores (recovered count) old = count
+resultStores (spent count) old = count

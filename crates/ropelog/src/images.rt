@@ -1,0 +1,124 @@
+// The calls about one image, for any lent bytes: 0, or document 01's refusal by number. A refused call changes nothing that was lent.
+ghost use Prim.Native.Nat.{suc};
+ghost use mathlib.Core.Path.{_≡_};
+ghost use lib.ListN.{length};
+ghost use Rattle.slices.specs.Parts.{part};
+ghost use Rattle.image.specs.Image.{decodeImage};
+ghost use Rattle.image.specs.View.{callRefusal, readRefusal, logLength};
+ghost use Rattle.image.specs.Read.{lentRefusal, epochsOf, verdictsOf, hasPayload, payloadOf, payloadAt};
+ghost use Rattle.image.specs.Append.{appendRefusal, appended, formatted};
+ghost use Rattle.ropelog.specs.Pieces.{unlessRefused};
+ghost use Rattle.ropelog.specs.Images.{handedOut, flag, payloadFound, found};
+
+// Makes a fresh image in a buffer of its size.
+#[no_mangle]
+pub extern "C" fn rope_format(image: &mut [u8], replica: usize, n: usize, m: usize) -> u8
+    ensures { λ r. ⌜ (r ≡ callRefusal replica n m (length (now (image .entry)))) × (now (image .exit) ≡ formatted replica n m (now (image .entry))) ⌝ }
+{
+    match image::append::format_image(image, replica, n, m) {
+        image::FormatAnswer::Formatted => 0,
+        image::FormatAnswer::Refused(refusal) => refusal,
+    }
+}
+
+// Appends to the first unused slot, whose number it hands out.
+#[no_mangle]
+pub extern "C" fn rope_append(
+    image: &mut [u8],
+    replica: usize,
+    n: usize,
+    m: usize,
+    epoch: u32,
+    payload: &[u8],
+    slot: &mut usize,
+) -> u8
+    ensures { λ r. ⌜ (r ≡ appendRefusal replica n m (now (image .entry)) epoch (length (now (payload .entry))))
+        × (now (image .exit) ≡ appended replica n m (now (image .entry)) epoch (now (payload .entry)))
+        × (now (slot .exit) ≡ handedOut r (suc (logLength m (decodeImage replica n m (now (image .entry))))) (now (slot .entry))) ⌝ }
+{
+    match image::append::append_entry(image, replica, n, m, epoch, payload) {
+        image::AppendAnswer::Slot(written) => {
+            *slot = written;
+            0
+        }
+        image::AppendAnswer::Refused(refusal) => refusal,
+    }
+}
+
+// Reads an image: hands out its log's length, and in the lent buffers the epoch and the verdict of each slot.
+#[no_mangle]
+pub extern "C" fn rope_read(
+    image: &[u8],
+    replica: usize,
+    n: usize,
+    m: usize,
+    epochs: &mut [u32],
+    verdicts: &mut [u8],
+    used: &mut usize,
+) -> u8
+    ensures { λ r. ⌜ (r ≡ lentRefusal replica n m (now (image .entry)) (length (now (epochs .entry))) (length (now (verdicts .entry))))
+        × (now (epochs .exit) ≡ unlessRefused r (epochsOf m (decodeImage replica n m (now (image .entry)))) (now (epochs .entry)))
+        × (now (verdicts .exit) ≡ unlessRefused r (verdictsOf m (decodeImage replica n m (now (image .entry)))) (now (verdicts .entry)))
+        × (now (used .exit) ≡ handedOut r (logLength m (decodeImage replica n m (now (image .entry)))) (now (used .entry))) ⌝ }
+{
+    match image::read::read_image(image, replica, n, m, epochs, verdicts) {
+        image::ReadAnswer::Length(length) => {
+            *used = length;
+            0
+        }
+        image::ReadAnswer::Refused(refusal) => refusal,
+    }
+}
+
+// Hands out 1 if a slot has a payload, and 0 if not.
+#[no_mangle]
+pub extern "C" fn rope_has_payload(
+    image: &[u8],
+    replica: usize,
+    n: usize,
+    m: usize,
+    slot: usize,
+    has: &mut u8,
+) -> u8
+    ensures { λ r. ⌜ (r ≡ readRefusal replica n m (now (image .entry)))
+        × (now (has .exit) ≡ handedOut r (flag (hasPayload m (decodeImage replica n m (now (image .entry))) slot)) (now (has .entry))) ⌝ }
+{
+    match image::read::has_payload(image, replica, n, m, slot) {
+        image::PayloadAnswer::Present => {
+            *has = 1;
+            0
+        }
+        image::PayloadAnswer::Absent => {
+            *has = 0;
+            0
+        }
+        image::PayloadAnswer::Refused(refusal) => refusal,
+    }
+}
+
+// 1 if a slot of an image that is not refused has a payload, else 0. Hands out where the payload stands in the image, and its length.
+#[no_mangle]
+pub extern "C" fn rope_payload(
+    image: &[u8],
+    replica: usize,
+    n: usize,
+    m: usize,
+    slot: usize,
+    at: &mut usize,
+    size: &mut usize,
+) -> u8
+    ensures { λ r. ⌜ (r ≡ flag (payloadFound replica n m (now (image .entry)) slot))
+        × (now (at .exit) ≡ found r (payloadAt replica n m (now (image .entry)) slot) (now (at .entry)))
+        × (now (size .exit) ≡ found r (length (payloadOf replica n m (now (image .entry)) slot)) (now (size .entry)))
+        × (r ≡ 1 → part (now (image .entry)) (now (at .exit)) (now (size .exit)) ≡ payloadOf replica n m (now (image .entry)) slot) ⌝ }
+{
+    let span = image::read::payload_span(image, replica, n, m, slot);
+    let start = span.start;
+    if start == 0 {
+        return 0;
+    }
+    let end = span.end;
+    *at = start;
+    *size = end - start;
+    1
+}

@@ -1,0 +1,151 @@
+// The pieces of an image, for any lent bytes. Refusals have document 01's numbers: 3 for a wrong length, 9 for a payload.
+ghost use mathlib.Core.Path.{_≡_};
+ghost use lib.ListN.{length};
+ghost use Rattle.checksum.specs.Checksum.{checksumOf};
+ghost use Rattle.column.specs.Column.{column};
+ghost use Rattle.record.specs.Layout.{headerBytes, recordBytes, blankRecord, entryBytes, freshEntry};
+ghost use Rattle.ropelog.specs.Pieces.{sizeRefusal, entryRefusal, unlessRefused, headerCode, columnCode, columnOut, recordCode, recordOut, entryCode, entryEpochOut, entrySizeOut};
+
+// The checksum of some bytes.
+#[no_mangle]
+pub extern "C" fn rope_checksum(s: &[u8]) -> u32
+    ensures { λ r. ⌜ r ≡ checksumOf (now (s .entry)) ⌝ }
+{
+    checksum::checksum_of(s)
+}
+
+// Writes x over the whole slice, right-justified.
+#[no_mangle]
+pub extern "C" fn rope_write_number(s: &mut [u8], x: u64)
+    ensures { λ _. ⌜ now (s .exit) ≡ column (length (now (s .entry))) x ⌝ }
+{
+    column::write_number(s, x);
+}
+
+// Reads a column: 0 and the number, 1 blank, 2 malformed, 3 over 19 bytes.
+#[no_mangle]
+pub extern "C" fn rope_read_column(s: &[u8], value: &mut u64) -> u8
+    ensures { λ r. ⌜ (r ≡ columnCode (now (s .entry))) × (now (value .exit) ≡ columnOut (now (s .entry)) (now (value .entry))) ⌝ }
+{
+    if 19 < s.len() {
+        return 3;
+    }
+    match column::read_column(s) {
+        column::ColumnState::Number(x) => {
+            *value = x;
+            0
+        }
+        column::ColumnState::Blank => 1,
+        column::ColumnState::Malformed => 2,
+    }
+}
+
+// Writes a header: 0, or 3 and nothing written.
+#[no_mangle]
+pub extern "C" fn rope_write_header(s: &mut [u8], replica: usize, n: usize, m: usize) -> u8
+    ensures { λ r. ⌜ (r ≡ sizeRefusal 28 (now (s .entry))) × (now (s .exit) ≡ unlessRefused r (headerBytes replica n m) (now (s .entry))) ⌝ }
+{
+    if s.len() != 28 {
+        return 3;
+    }
+    record::write_header(s, replica, n, m);
+    0
+}
+
+// Writes the record of an epoch and an index: 0, or 3 and nothing written.
+#[no_mangle]
+pub extern "C" fn rope_write_record(s: &mut [u8], epoch: u32, index: u32) -> u8
+    ensures { λ r. ⌜ (r ≡ sizeRefusal 34 (now (s .entry))) × (now (s .exit) ≡ unlessRefused r (recordBytes epoch index) (now (s .entry))) ⌝ }
+{
+    if s.len() != 34 {
+        return 3;
+    }
+    record::write_record(s, epoch, index);
+    0
+}
+
+// Writes a blank record: 0, or 3 and nothing written.
+#[no_mangle]
+pub extern "C" fn rope_write_blank_record(s: &mut [u8]) -> u8
+    ensures { λ r. ⌜ (r ≡ sizeRefusal 34 (now (s .entry))) × (now (s .exit) ≡ unlessRefused r blankRecord (now (s .entry))) ⌝ }
+{
+    if s.len() != 34 {
+        return 3;
+    }
+    record::write_blank_record(s);
+    0
+}
+
+// Writes the entry of an epoch, an index and a payload: 0, or 3 or 9 and nothing written.
+#[no_mangle]
+pub extern "C" fn rope_write_entry(s: &mut [u8], epoch: u32, index: u32, payload: &[u8]) -> u8
+    ensures { λ r. ⌜ (r ≡ entryRefusal (now (s .entry)) (now (payload .entry))) × (now (s .exit) ≡ unlessRefused r (entryBytes epoch index (now (payload .entry))) (now (s .entry))) ⌝ }
+{
+    if s.len() != 240 {
+        return 3;
+    }
+    if 200 < payload.len() {
+        return 9;
+    }
+    record::write_entry(s, epoch, index, payload);
+    0
+}
+
+// Writes a fresh entry: 0, or 3 and nothing written.
+#[no_mangle]
+pub extern "C" fn rope_write_fresh_entry(s: &mut [u8]) -> u8
+    ensures { λ r. ⌜ (r ≡ sizeRefusal 240 (now (s .entry))) × (now (s .exit) ≡ unlessRefused r freshEntry (now (s .entry))) ⌝ }
+{
+    if s.len() != 240 {
+        return 3;
+    }
+    record::write_fresh_entry(s);
+    0
+}
+
+// Whether the header is the writer's for this replica, n and m: 1 yes, 0 no.
+#[no_mangle]
+pub extern "C" fn rope_is_header(s: &[u8], replica: usize, n: usize, m: usize) -> u8
+    ensures { λ r. ⌜ r ≡ headerCode replica n m (now (s .entry)) ⌝ }
+{
+    if record::is_header(s, replica, n, m) {
+        return 1;
+    }
+    0
+}
+
+// Judges the record of an index: 0 good and its epoch, 1 blank, 2 bad, 3 not a record's length.
+#[no_mangle]
+pub extern "C" fn rope_judge_record(s: &[u8], index: u32, epoch: &mut u32) -> u8
+    ensures { λ r. ⌜ (r ≡ recordCode index (now (s .entry))) × (now (epoch .exit) ≡ recordOut index (now (s .entry)) (now (epoch .entry))) ⌝ }
+{
+    if s.len() != 34 {
+        return 3;
+    }
+    match record::judge_record(s, index) {
+        record::RecordState::Good(e) => {
+            *epoch = e;
+            0
+        }
+        record::RecordState::Blank => 1,
+        record::RecordState::Bad => 2,
+    }
+}
+
+// Judges the entry of an index: 0 intact with its epoch and its payload's length, 1 broken, 3 not an entry's length.
+#[no_mangle]
+pub extern "C" fn rope_judge_entry(s: &[u8], index: u32, epoch: &mut u32, size: &mut usize) -> u8
+    ensures { λ r. ⌜ (r ≡ entryCode index (now (s .entry))) × (now (epoch .exit) ≡ entryEpochOut index (now (s .entry)) (now (epoch .entry))) × (now (size .exit) ≡ entrySizeOut index (now (s .entry)) (now (size .entry))) ⌝ }
+{
+    if s.len() != 240 {
+        return 3;
+    }
+    match record::judge_entry(s, index) {
+        record::EntryState::Intact(e, length) => {
+            *epoch = e;
+            *size = length;
+            0
+        }
+        record::EntryState::Broken => 1,
+    }
+}

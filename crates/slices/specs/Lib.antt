@@ -1,0 +1,4 @@
+-- What the contracts of `slices` cite.
+pub mod Parts
+pub mod Same
+pub mod AllBytes

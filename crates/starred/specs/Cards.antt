@@ -1,0 +1,39 @@
+-- Small images and clusters for the table, in the writer's bytes.
+use Prim.Native.Nat.{ℕ}
+use mathlib.Core.List.{List, [], _∷_, _++_}
+use lib.ListN.{replicate}
+use Rattle.slices.specs.Parts.{Bytes}
+use Rattle.record.specs.Layout.{headerBytes, recordBytes, blankRecord, entryBytes, freshEntry}
+use Rattle.protocol.specs.Call.{Numbers}
+
+-- 240 and 34 bytes that nobody writes
+unfoldable pub noise : Bytes
+noise = replicate 240 9
+
+unfoldable pub scratch : Bytes
+scratch = replicate 34 9
+
+-- slot k under epoch e, as written
+unfoldable pub whole : ℕ → ℕ → Bytes
+whole e k = entryBytes e k (65 ∷ [])
+
+-- an image of one slot and one of two, of replica 1 of 3
+unfoldable pub one : Bytes → Bytes → Bytes
+one r x = headerBytes 1 3 1 ++ (r ++ x)
+
+unfoldable pub two : Bytes → Bytes → Bytes → Bytes → Bytes
+two r s x y = headerBytes 1 3 2 ++ (r ++ (s ++ (x ++ y)))
+
+-- the image of replica c of 5, with one slot: its entry is noise; it has it; it does not
+unfoldable pub faulty : ℕ → Bytes
+faulty c = headerBytes c 5 1 ++ (recordBytes 1 1 ++ noise)
+
+unfoldable pub has : ℕ → Bytes
+has c = headerBytes c 5 1 ++ (recordBytes 1 1 ++ whole 1 1)
+
+unfoldable pub lacks : ℕ → Bytes
+lacks c = headerBytes c 5 1 ++ (blankRecord ++ freshEntry)
+
+-- five replicas with one slot, leader 1, and this present set
+abbrev pub five : ℕ → Numbers
+five present = record { n = 5; m = 1; leader = 1; present = present }

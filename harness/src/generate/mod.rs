@@ -1,0 +1,32 @@
+//! Generated inputs: agreeing histories with damage, arbitrary clusters, and noise.
+
+pub mod arbitrary;
+pub mod build;
+pub mod damage;
+pub mod example;
+pub mod history;
+pub mod images;
+pub mod noise;
+pub mod pieces;
+pub mod rng;
+pub mod small;
+
+pub use arbitrary::arbitrary_case;
+pub use build::Cluster;
+pub use example::example_input;
+pub use history::{agreed_case, AgreedCase, Committed};
+pub use images::{image_calls, ImageCalls};
+pub use noise::{noise_cluster, noise_image, noise_report_input, ImageCase};
+pub use pieces::{entry_piece, header_piece, record_piece, HeaderPiece, Piece};
+pub use rng::Rng;
+pub use small::{small_case, SMALL_CASES};
+
+/// A cluster with the numbers a call names beside it.
+#[derive(Clone, Debug, PartialEq, Eq)]
+pub struct Case {
+    pub n: usize,
+    pub m: usize,
+    pub leader: usize,
+    pub present: u32,
+    pub cluster: Vec<u8>,
+}

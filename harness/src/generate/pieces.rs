@@ -1,0 +1,234 @@
+//! Bytes of one header, record or entry: as they are written, nearly so, and not at all.
+
+use super::damage::flip_one_byte;
+use super::rng::Rng;
+use crate::model::{
+    checksum, write_column, write_record, BLANK_RECORD, ENTRY_LEN, HEADER_LEN, MAX_PAYLOAD,
+    RECORD_LEN,
+};
+
+/// The bytes of a record or an entry, and the index they are judged for.
+#[derive(Clone, Debug)]
+pub struct Piece {
+    pub bytes: Vec<u8>,
+    pub index: u32,
+}
+
+/// The bytes of a header, and the numbers they are judged for.
+#[derive(Clone, Debug)]
+pub struct HeaderPiece {
+    pub bytes: Vec<u8>,
+    pub replica: usize,
+    pub n: usize,
+    pub m: usize,
+}
+
+/// A number at an edge of a column or a type, or any.
+pub fn some_number(rng: &mut Rng) -> u64 {
+    let edge = match rng.below(4) {
+        0 => 10u64.pow(rng.below(20) as u32),
+        1 => 1 << rng.below(64),
+        2 => return rng.draw() >> rng.below(64),
+        _ => return rng.below(1000) as u64,
+    };
+    edge.wrapping_sub(1).wrapping_add(rng.below(3) as u64)
+}
+
+/// An epoch or an index, often at an edge.
+pub fn some_word(rng: &mut Rng) -> u32 {
+    match rng.below(4) {
+        0 => *rng.pick(&[0, 1, 2, 9, 10, 64, 65, u32::MAX - 1, u32::MAX]),
+        1 => 10u32.pow(rng.below(10) as u32) - rng.below(2) as u32,
+        2 => rng.draw() as u32 >> rng.below(32),
+        _ => 1 + rng.below(64) as u32,
+    }
+}
+
+/// The number in an epoch's column, now and then more than an epoch can be.
+fn some_epoch_column(rng: &mut Rng) -> u64 {
+    if rng.chance(5) {
+        *rng.pick(&[1 << 32, (1 << 32) + 1, 10_000_000_000, 99_999_999_999])
+    } else {
+        u64::from(some_word(rng))
+    }
+}
+
+/// A payload of that length, of any bytes.
+pub fn payload_of(rng: &mut Rng, length: usize) -> Vec<u8> {
+    let mut payload = vec![0; length];
+    rng.fill_noise(&mut payload);
+    payload
+}
+
+/// The bytes of a column, whatever its width: a number, spaces, zeros in front, or noise.
+pub fn some_column(rng: &mut Rng, width: usize) -> Vec<u8> {
+    let mut column = vec![b' '; width];
+    match rng.below(8) {
+        0 => {}
+        1 => rng.fill_noise(&mut column),
+        2 => write_digits(&mut column, some_number(rng), b'0'),
+        3 => {
+            write_digits(&mut column, some_number(rng), b' ');
+            column.rotate_left(usize::from(width > 0));
+        }
+        _ => write_digits(&mut column, some_number(rng), b' '),
+    }
+    if width > 0 && rng.chance(20) {
+        spoil(rng, &mut column);
+    }
+    column
+}
+
+/// As many of the number's lowest digits as there is room for.
+fn write_digits(column: &mut [u8], number: u64, filler: u8) {
+    let text = format!("{number}");
+    let digits = &text.as_bytes()[text.len().saturating_sub(column.len())..];
+    let at = column.len() - digits.len();
+    column[..at].fill(filler);
+    column[at..].copy_from_slice(digits);
+}
+
+/// Changes one byte or two.
+pub fn spoil(rng: &mut Rng, bytes: &mut [u8]) {
+    flip_one_byte(rng, bytes);
+    if rng.chance(50) {
+        flip_one_byte(rng, bytes);
+    }
+}
+
+/// Another length: one off, another piece's, or any.
+pub fn wrong_length(rng: &mut Rng, bytes: &mut Vec<u8>) {
+    let right = bytes.len();
+    while bytes.len() == right {
+        let any = rng.below(300);
+        let length = *rng.pick(&[
+            right - 1,
+            right + 1,
+            0,
+            HEADER_LEN,
+            RECORD_LEN,
+            ENTRY_LEN,
+            any,
+        ]);
+        bytes.resize(length, b' ');
+    }
+}
+
+/// Appends the number's column, now and then another column.
+fn push_column(rng: &mut Rng, bytes: &mut Vec<u8>, width: usize, number: u64) {
+    if rng.chance(8) {
+        bytes.extend(some_column(rng, width));
+        return;
+    }
+    let at = bytes.len();
+    bytes.resize(at + width, b' ');
+    write_column(&mut bytes[at..], number);
+}
+
+/// Appends the checksum column and the newline, now and then not quite right.
+fn push_seal(rng: &mut Rng, bytes: &mut Vec<u8>) {
+    let sum = match rng.below(40) {
+        0 => checksum(bytes) ^ 1 << rng.below(32),
+        1 => checksum(bytes).swap_bytes(),
+        2 => checksum(&bytes[1..]),
+        _ => checksum(bytes),
+    };
+    let at = bytes.len();
+    bytes.resize(at + 11, b' ');
+    write_column(&mut bytes[at..], u64::from(sum));
+    bytes.push(if rng.chance(2) { b' ' } else { b'\n' });
+}
+
+/// The number itself, or another one.
+fn mostly(rng: &mut Rng, number: u32) -> u32 {
+    if rng.chance(8) {
+        some_word(rng)
+    } else {
+        number
+    }
+}
+
+/// A record, written for its index or not, or 34 bytes that are none.
+pub fn record_piece(rng: &mut Rng) -> Piece {
+    let index = some_word(rng);
+    let mut bytes = BLANK_RECORD.to_vec();
+    match rng.below(10) {
+        0 | 1 => {}
+        2 => rng.fill_noise(&mut bytes),
+        3 => bytes = write_record(some_word(rng), index as usize).to_vec(),
+        _ => {
+            bytes.clear();
+            let epoch = some_epoch_column(rng);
+            push_column(rng, &mut bytes, 11, epoch);
+            let written_for = mostly(rng, index);
+            push_column(rng, &mut bytes, 11, u64::from(written_for));
+            push_seal(rng, &mut bytes);
+        }
+    }
+    if rng.chance(15) {
+        spoil(rng, &mut bytes);
+    }
+    Piece { bytes, index }
+}
+
+/// An entry, written for its index or not, or 240 bytes that are none.
+///
+/// Two payload bytes more than are allowed would still find room.
+pub fn entry_piece(rng: &mut Rng) -> Piece {
+    let index = some_word(rng);
+    let mut bytes = Vec::with_capacity(ENTRY_LEN);
+    if rng.chance(10) {
+        bytes.resize(ENTRY_LEN, b' ');
+        if rng.chance(80) {
+            rng.fill_noise(&mut bytes);
+        }
+    } else {
+        let epoch = some_epoch_column(rng);
+        push_column(rng, &mut bytes, 11, epoch);
+        let written_for = mostly(rng, index);
+        push_column(rng, &mut bytes, 11, u64::from(written_for));
+        let length = rng.below(MAX_PAYLOAD + 3);
+        push_column(rng, &mut bytes, 4, length as u64);
+        bytes.extend(payload_of(rng, length));
+        push_seal(rng, &mut bytes);
+        bytes.resize(ENTRY_LEN, b' ');
+        if rng.chance(2) {
+            let at = rng.between(26 + length, ENTRY_LEN - 1);
+            bytes[at] = rng.byte();
+        }
+    }
+    if rng.chance(15) {
+        spoil(rng, &mut bytes);
+    }
+    Piece { bytes, index }
+}
+
+/// A header, written for its numbers or not, or 28 bytes that are none.
+pub fn header_piece(rng: &mut Rng) -> HeaderPiece {
+    let mut number = || *rng.pick(&[0, 1, 2, 3, 5, 7, 9, 10, 63, 64, 65, 100, 999]);
+    let numbers = [number(), number(), number()];
+    let mut bytes = if rng.chance(97) { *b"rope" } else { *b"r0pe" }.to_vec();
+    push_column(rng, &mut bytes, 3, 1);
+    for number in numbers {
+        push_column(rng, &mut bytes, 3, number as u64);
+    }
+    push_seal(rng, &mut bytes);
+    if rng.chance(10) {
+        rng.fill_noise(&mut bytes);
+    }
+    if rng.chance(15) {
+        spoil(rng, &mut bytes);
+    }
+    let [replica, n, m] = numbers.map(|number| match rng.below(25) {
+        0 => rng.below(1000),
+        1 => number + 1000 * rng.below(3),
+        2 => some_number(rng) as usize,
+        _ => number,
+    });
+    HeaderPiece {
+        bytes,
+        replica,
+        n,
+        m,
+    }
+}

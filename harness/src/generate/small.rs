@@ -1,0 +1,160 @@
+//! Every agreed cluster of three replicas and one slot, over two epochs, up to the kind of bytes.
+
+use super::build::Cluster;
+use super::history::{AgreedCase, Committed};
+use super::Case;
+
+const REPLICAS: usize = 3;
+
+/// What one replica holds in its only slot, with its header good or not.
+#[derive(Clone, Copy, Debug, PartialEq, Eq)]
+enum Held {
+    /// Unused, with these bytes left behind.
+    Unused(Bytes),
+    /// Used under an epoch, with the record as written and these bytes as its entry.
+    Used(u32, Bytes),
+    /// Used under an epoch, with the record lost and the entry whole.
+    RecordLost(u32),
+    /// Refused by its header; used under an epoch, or unused for epoch 0.
+    Unreadable(u32),
+}
+
+/// The kinds of bytes an entry may be.
+#[derive(Clone, Copy, Debug, PartialEq, Eq)]
+enum Bytes {
+    Spaces,
+    Noise,
+    /// An intact entry of an epoch, with the payload appended under it.
+    Appended(u32),
+    /// An intact entry of an epoch, with a payload from some forgotten past.
+    Forgotten(u32),
+}
+
+use Bytes::*;
+use Held::*;
+
+const KINDS: [Held; 19] = [
+    Unused(Spaces),
+    Unused(Noise),
+    Unused(Appended(1)),
+    Unused(Appended(2)),
+    Unused(Forgotten(1)),
+    Unused(Forgotten(2)),
+    Used(1, Appended(1)),
+    Used(1, Spaces),
+    Used(1, Noise),
+    Used(1, Forgotten(2)),
+    RecordLost(1),
+    Used(2, Appended(2)),
+    Used(2, Spaces),
+    Used(2, Noise),
+    Used(2, Forgotten(1)),
+    RecordLost(2),
+    Unreadable(0),
+    Unreadable(1),
+    Unreadable(2),
+];
+
+/// Leaders, times the sets of others that are present beside the leader.
+const VIEWS: usize = REPLICAS * 4;
+
+/// How many cases there are.
+pub const SMALL_CASES: usize = KINDS.len() * KINDS.len() * KINDS.len() * VIEWS;
+
+/// The case of a number below `SMALL_CASES`.
+pub fn small_case(number: usize) -> AgreedCase {
+    let (leader, present) = view(number % VIEWS);
+    let mut rest = number / VIEWS;
+    let mut cluster = Cluster::fresh(REPLICAS, 1);
+    let mut holders = [0u32; 3];
+    for replica in 1..=REPLICAS {
+        let held = KINDS[rest % KINDS.len()];
+        rest /= KINDS.len();
+        put(&mut cluster, replica, held);
+        holders[held.epoch() as usize] |= 1 << (replica - 1);
+    }
+    let mut committed = Vec::new();
+    for epoch in 1..=2 {
+        let holders = holders[epoch as usize];
+        let leader_holds = holders >> (leader - 1) & 1 == 1;
+        if leader_holds && holders.count_ones() >= 2 {
+            committed.push(Committed {
+                slot: 1,
+                epoch,
+                payload: appended(epoch).to_vec(),
+                holders,
+            });
+        }
+    }
+    AgreedCase {
+        case: Case {
+            n: REPLICAS,
+            m: 1,
+            leader,
+            present,
+            cluster: cluster.bytes,
+        },
+        committed,
+    }
+}
+
+impl Held {
+    /// The epoch under which the slot is used, 0 if it is not.
+    fn epoch(self) -> u32 {
+        match self {
+            Unused(_) => 0,
+            Used(epoch, _) | RecordLost(epoch) | Unreadable(epoch) => epoch,
+        }
+    }
+}
+
+/// A leader and a present word with the leader in it.
+fn view(number: usize) -> (usize, u32) {
+    let leader = number / 4 + 1;
+    let mut others = (number % 4) as u32;
+    let mut present = 1 << (leader - 1);
+    for replica in 1..=REPLICAS {
+        if replica != leader {
+            present |= (others & 1) << (replica - 1);
+            others >>= 1;
+        }
+    }
+    (leader, present)
+}
+
+fn put(cluster: &mut Cluster, replica: usize, held: Held) {
+    match held {
+        Unused(bytes) => put_bytes(cluster, replica, bytes),
+        Used(epoch, bytes) => {
+            cluster.put_record(replica, 1, epoch);
+            put_bytes(cluster, replica, bytes);
+        }
+        RecordLost(epoch) => {
+            put_bytes(cluster, replica, Appended(epoch));
+            cluster.record_mut(replica, 1).fill(b'#');
+        }
+        Unreadable(epoch) => {
+            if epoch > 0 {
+                put(cluster, replica, Used(epoch, Appended(epoch)));
+            }
+            cluster.header_mut(replica)[0] = b'#';
+        }
+    }
+}
+
+fn put_bytes(cluster: &mut Cluster, replica: usize, bytes: Bytes) {
+    match bytes {
+        Spaces => {}
+        Noise => cluster.entry_mut(replica, 1).fill(b'#'),
+        Appended(epoch) => cluster.put_entry(replica, 1, epoch, appended(epoch)),
+        Forgotten(epoch) => cluster.put_entry(replica, 1, epoch, b"forgotten"),
+    }
+}
+
+fn appended(epoch: u32) -> &'static [u8] {
+    if epoch == 1 {
+        b"first"
+    } else {
+        b"second"
+    }
+}

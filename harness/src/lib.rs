@@ -1,0 +1,12 @@
+//! A plain model of the rope log: its image, its reader, its planner and its recovery.
+//!
+//! It is written for comparison, so it prefers loops one can check by eye over speed.
+//! Beside it stand the proved functions that it is compared with.
+
+pub mod bench;
+pub mod code;
+pub mod generate;
+pub mod guarded;
+pub mod model;
+pub mod property;
+pub mod proved;

@@ -1,0 +1,153 @@
+//! The command line of the harness.
+
+use std::env;
+use std::fs;
+use std::io::{self, Read, Write};
+use std::process::ExitCode;
+
+use harness::bench;
+use harness::code::MODEL;
+use harness::generate::example_input;
+use harness::model;
+use harness::property;
+
+const USAGE: &str = "usage:
+  harness report FILE                    print the plan for FILE (- for standard input)
+  harness sample                         write the input of the printed example
+  harness property --cases N --seed S    check what recovery promises on generated clusters
+  harness table                          try all damaged sets of four entries on three replicas
+  harness bench                          time the proved functions beside the model's";
+
+fn main() -> ExitCode {
+    let arguments: Vec<String> = env::args_os()
+        .skip(1)
+        .map(|argument| argument.to_string_lossy().into_owned())
+        .collect();
+    match dispatch(&arguments) {
+        Ok(()) => ExitCode::SUCCESS,
+        Err(message) => {
+            eprintln!("harness: {message}");
+            ExitCode::FAILURE
+        }
+    }
+}
+
+fn dispatch(arguments: &[String]) -> Result<(), String> {
+    let Some((subcommand, rest)) = arguments.split_first() else {
+        return Err(format!("a subcommand is missing\n{USAGE}"));
+    };
+    match subcommand.as_str() {
+        "report" => report(rest),
+        "sample" => sample(rest),
+        "property" => check_property(rest),
+        "table" => table(rest),
+        "bench" => time_functions(rest),
+        other => Err(format!("unknown subcommand '{other}'\n{USAGE}")),
+    }
+}
+
+/// Prints what the printing program prints.
+fn report(arguments: &[String]) -> Result<(), String> {
+    let [file] = arguments else {
+        return Err(format!("report takes one FILE\n{USAGE}"));
+    };
+    if file.starts_with("--") {
+        return Err(format!("unknown flag '{file}'\n{USAGE}"));
+    }
+    let input = read_input(file).map_err(|error| format!("cannot read '{file}': {error}"))?;
+    print_bytes(&model::report(&input))
+}
+
+/// Writes the input of the printed example.
+fn sample(arguments: &[String]) -> Result<(), String> {
+    no_arguments("sample", arguments)?;
+    print_bytes(&example_input())
+}
+
+fn read_input(file: &str) -> io::Result<Vec<u8>> {
+    if file != "-" {
+        return fs::read(file);
+    }
+    let mut input = Vec::new();
+    io::stdin().lock().read_to_end(&mut input)?;
+    Ok(input)
+}
+
+fn print_bytes(bytes: &[u8]) -> Result<(), String> {
+    let mut output = io::stdout().lock();
+    output
+        .write_all(bytes)
+        .and_then(|()| output.flush())
+        .map_err(|error| format!("cannot write the output: {error}"))
+}
+
+/// Plays generated cases of every kind.
+fn check_property(arguments: &[String]) -> Result<(), String> {
+    let [cases, seed] = flag_values(arguments, ["--cases", "--seed"])?;
+    let agreed = property::check_agreed(MODEL, seed, cases)?;
+    let arbitrary = property::check_arbitrary(MODEL, seed, cases)?;
+    property::check_images(seed, cases)?;
+    let text = format!(
+        "agreed clusters: {cases} cases\n{agreed}\n\
+         arbitrary clusters: {cases} cases\n{arbitrary}\n\
+         images: {cases} cases\nall conclusions hold\n"
+    );
+    print_bytes(text.as_bytes())
+}
+
+/// Prints the times; they say something only of a release build.
+fn time_functions(arguments: &[String]) -> Result<(), String> {
+    no_arguments("bench", arguments)?;
+    print_bytes(bench::table().to_string().as_bytes())
+}
+
+fn no_arguments(subcommand: &str, arguments: &[String]) -> Result<(), String> {
+    match arguments.first() {
+        None => Ok(()),
+        Some(flag) if flag.starts_with("--") => Err(format!("unknown flag '{flag}'\n{USAGE}")),
+        Some(extra) => Err(format!(
+            "{subcommand} takes no argument, not '{extra}'\n{USAGE}"
+        )),
+    }
+}
+
+fn table(arguments: &[String]) -> Result<(), String> {
+    no_arguments("table", arguments)?;
+    let table = property::table::table(MODEL.run)?;
+    let text = format!(
+        "recovered {}\nwaiting {}\nharmed {}\n",
+        table.recovered, table.waiting, table.harmed
+    );
+    print_bytes(text.as_bytes())?;
+    if table.harmed > 0 {
+        return Err("some combination loses or alters something".into());
+    }
+    Ok(())
+}
+
+/// The numbers behind the named flags, each given exactly once in any order.
+fn flag_values<const N: usize>(arguments: &[String], names: [&str; N]) -> Result<[u64; N], String> {
+    let mut values = [None; N];
+    let mut rest = arguments;
+    while let Some((flag, behind)) = rest.split_first() {
+        let Some(at) = names.iter().position(|name| name == flag) else {
+            return Err(format!("unknown flag '{flag}'\n{USAGE}"));
+        };
+        let Some((text, behind)) = behind.split_first() else {
+            return Err(format!("{flag} needs a value\n{USAGE}"));
+        };
+        if values[at].is_some() {
+            return Err(format!("{flag} is given twice\n{USAGE}"));
+        }
+        let value = text
+            .parse()
+            .map_err(|_| format!("{flag} needs a number, not '{text}'"))?;
+        values[at] = Some(value);
+        rest = behind;
+    }
+    let mut found = [0; N];
+    for at in 0..N {
+        found[at] = values[at].ok_or_else(|| format!("{} is missing\n{USAGE}", names[at]))?;
+    }
+    Ok(found)
+}

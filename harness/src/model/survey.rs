@@ -1,0 +1,84 @@
+//! Asking every replica of a cluster for its log.
+
+use super::layout::{cluster_len, image_len, image_offset};
+use super::read::{check_counts, judge_image, Log};
+use super::refusal::Refusal;
+
+/// The planner's row for one replica (the paper's row).
+#[repr(C)]
+#[derive(Clone, Copy, Debug, Default, PartialEq, Eq)]
+pub struct ReplicaRow {
+    /// 1 if the replica is present and its image is readable, else 0.
+    pub readable: u8,
+    pub length: u32,
+    pub last_epoch: u32,
+}
+
+/// The logs within reach: none for a replica that is away or unreadable.
+pub struct Survey {
+    pub n: usize,
+    pub m: usize,
+    pub leader: usize,
+    pub logs: Vec<Option<Log>>,
+}
+
+impl Survey {
+    /// The log of a replica, if it is within reach.
+    pub fn log(&self, replica: usize) -> Option<&Log> {
+        self.logs[replica - 1].as_ref()
+    }
+
+    /// The log of the leader (the paper's lead); a survey without one is refused.
+    pub fn leader_log(&self) -> &Log {
+        self.log(self.leader).expect("the leader is readable")
+    }
+
+    pub fn row(&self, replica: usize) -> ReplicaRow {
+        match self.log(replica) {
+            None => ReplicaRow::default(),
+            Some(log) => ReplicaRow {
+                readable: 1,
+                length: log.length as u32,
+                last_epoch: log.last_epoch(),
+            },
+        }
+    }
+}
+
+/// Whether a replica is in the present word (the paper's set). Replica c has bit c - 1.
+pub fn is_present(present: u32, replica: usize) -> bool {
+    present & (1 << (replica - 1)) != 0
+}
+
+/// Reads every present image, with refusals 1, 2, 3, 11 and 12.
+pub fn survey(
+    cluster: &[u8],
+    n: usize,
+    m: usize,
+    leader: usize,
+    present: u32,
+) -> Result<Survey, Refusal> {
+    check_counts(n, m)?;
+    if cluster.len() != cluster_len(n, m) {
+        return Err(Refusal::BufferLength);
+    }
+    if present >> n != 0 {
+        return Err(Refusal::Present);
+    }
+    if leader < 1 || leader > n {
+        return Err(Refusal::Leader);
+    }
+    let mut logs = Vec::new();
+    for replica in 1..=n {
+        logs.push(if is_present(present, replica) {
+            let at = image_offset(m, replica);
+            judge_image(&cluster[at..at + image_len(m)], replica, n, m).ok()
+        } else {
+            None
+        });
+    }
+    if logs[leader - 1].is_none() {
+        return Err(Refusal::Leader);
+    }
+    Ok(Survey { n, m, leader, logs })
+}

@@ -1,0 +1,320 @@
+//! The conclusions about a recovery, each checked against the cluster it started from.
+
+use super::coverage::Coverage;
+use super::ensure;
+use crate::generate::damage::intact_under;
+use crate::generate::{Case, Committed};
+use crate::model::planner::{PLAN_FETCH, PLAN_TRUNCATE, PLAN_WAIT};
+use crate::model::survey::is_present;
+use crate::model::{
+    entry_offset, image_len, image_offset, judge_entry, judge_image, next_store, plan,
+    record_offset, run, write_entry, write_record, Answer, EntryState, Log, Next, Refusal,
+    ReplicaRow, RunEnd, Verdict, ENTRY_LEN, RECORD_LEN,
+};
+
+/// A damaged cluster and what was found there first.
+pub struct Start<'a> {
+    pub case: &'a Case,
+    pub committed: &'a [Committed],
+    /// The replicas that are present and readable; none if the planner refuses.
+    pub within_reach: u32,
+    pub answer: Result<Answer, Refusal>,
+    pub plan: Vec<u8>,
+    pub end: Result<RunEnd, Refusal>,
+    pub stores: u64,
+    pub recovered: Vec<u8>,
+}
+
+impl<'a> Start<'a> {
+    pub fn new(case: &'a Case, committed: &'a [Committed]) -> Start<'a> {
+        let (answer, plan, rows) = planned(case, &case.cluster);
+        let mut within_reach = 0;
+        if answer.is_ok() {
+            for replica in 1..=case.n {
+                if rows[replica - 1].readable == 1 {
+                    within_reach |= 1 << (replica - 1);
+                }
+            }
+        }
+        let mut recovered = case.cluster.clone();
+        let full = full_run(case, &mut recovered);
+        Start {
+            case,
+            committed,
+            within_reach,
+            answer,
+            plan,
+            end: full.map(|answer| answer.0),
+            stores: full.map_or(0, |answer| answer.1),
+            recovered,
+        }
+    }
+
+    /// The conclusions about the damaged cluster itself and its full recovery.
+    pub fn check_first(&self, coverage: &mut Coverage) -> Result<(), String> {
+        self.count(coverage);
+        self.check_within_reach()?;
+        let expected = self.answer.map(|answer| match answer {
+            Answer::Ready(_) => RunEnd::Done,
+            Answer::Waiting(slot) => RunEnd::Waiting(slot),
+        });
+        ensure(self.end == expected, || {
+            format!("{:?} but the full run ends {:?}", self.answer, self.end)
+        })?;
+        if self.end != Ok(RunEnd::Done) {
+            ensure(self.recovered == self.case.cluster, || {
+                "a run that does not end done has written".into()
+            })?;
+        }
+        for committed in self.committed {
+            self.check_leaders_copy(committed, coverage)?;
+            if self.end == Ok(RunEnd::Done) {
+                self.check_stored_everywhere(committed)?;
+            }
+        }
+        if let Ok(Answer::Ready(length)) = self.answer {
+            self.check_lengths(length)?;
+        }
+        Ok(())
+    }
+
+    fn count(&self, coverage: &mut Coverage) {
+        match self.answer {
+            Ok(Answer::Ready(_)) => coverage.ready += 1,
+            Ok(Answer::Waiting(_)) => coverage.waiting += 1,
+            Err(_) => coverage.refused += 1,
+        }
+        if self.answer.is_ok() {
+            coverage.committed += self.committed.len() as u64;
+            coverage.truncated += u64::from(self.plan.contains(&PLAN_TRUNCATE));
+        }
+        coverage.most_stores = coverage.most_stores.max(self.stores);
+    }
+
+    /// The table says which replicas are present and readable.
+    fn check_within_reach(&self) -> Result<(), String> {
+        if self.answer.is_err() {
+            return Ok(());
+        }
+        for replica in 1..=self.case.n {
+            let readable = is_present(self.case.present, replica)
+                && self.log(&self.case.cluster, replica).is_ok();
+            ensure(readable == is_present(self.within_reach, replica), || {
+                format!("the row of replica {replica}")
+            })?;
+        }
+        Ok(())
+    }
+
+    /// A faulty copy is fetched from the lowest that has it, or everything waits.
+    fn check_leaders_copy(
+        &self,
+        committed: &Committed,
+        coverage: &mut Coverage,
+    ) -> Result<(), String> {
+        if self.answer.is_err() {
+            return Ok(());
+        }
+        let slot = committed.slot;
+        let log = self.log(&self.case.cluster, self.case.leader)?;
+        let byte = self.plan[slot - 1];
+        let expected = match log.verdict(slot) {
+            Verdict::Intact => 1,
+            Verdict::RecordLost => {
+                coverage.records_lost += 1;
+                2
+            }
+            _ => match self.lowest_copy(committed)? {
+                Some(donor) => {
+                    coverage.fetched += 1;
+                    PLAN_FETCH + donor as u8
+                }
+                None => {
+                    coverage.out_of_reach += 1;
+                    let waits = matches!(self.answer, Ok(Answer::Waiting(at)) if at <= slot);
+                    ensure(waits, || format!("slot {slot} has no copy, yet no wait"))?;
+                    PLAN_WAIT
+                }
+            },
+        };
+        ensure(byte == expected, || {
+            format!("committed slot {slot} has plan byte {byte}, not {expected}")
+        })
+    }
+
+    /// The lowest replica within reach that has a committed payload intact.
+    fn lowest_copy(&self, committed: &Committed) -> Result<Option<usize>, String> {
+        for replica in 1..=self.case.n {
+            if replica == self.case.leader || !is_present(self.within_reach, replica) {
+                continue;
+            }
+            let log = self.log(&self.case.cluster, replica)?;
+            let slot = committed.slot;
+            if log.verdict(slot).has_payload() && log.epoch(slot) == committed.epoch {
+                return Ok(Some(replica));
+            }
+        }
+        Ok(None)
+    }
+
+    /// Recovery done: record and entry are as the writer writes them, wherever one can look.
+    fn check_stored_everywhere(&self, committed: &Committed) -> Result<(), String> {
+        let Committed { slot, epoch, .. } = *committed;
+        for replica in self.replicas_within_reach() {
+            let record = record(&self.recovered, self.case.m, replica, slot);
+            let entry = entry(&self.recovered, self.case.m, replica, slot);
+            let stored = record == write_record(epoch, slot)
+                && entry == write_entry(epoch, slot, &committed.payload);
+            ensure(stored, || {
+                format!("slot {slot} of replica {replica} is not stored after recovery")
+            })?;
+        }
+        Ok(())
+    }
+
+    /// Recovery done: all logs within reach have the length the planner named, none faulty.
+    fn check_lengths(&self, length: usize) -> Result<(), String> {
+        let leader_log = self.log(&self.recovered, self.case.leader)?;
+        for replica in self.replicas_within_reach() {
+            let log = self.log(&self.recovered, replica)?;
+            let intact = log.verdicts[..length]
+                .iter()
+                .all(|&verdict| verdict == Verdict::Intact);
+            let same = log.length == length && log.epochs == leader_log.epochs;
+            ensure(intact && same, || {
+                format!("the log of replica {replica} after recovery")
+            })?;
+        }
+        Ok(())
+    }
+
+    /// Every conclusion about a cluster that calls and power cuts have left.
+    pub fn check_state(&self, now: &[u8], coverage: &mut Coverage) -> Result<(), String> {
+        coverage.states += 1;
+        self.check_untouched(now)?;
+        for committed in self.committed {
+            self.check_kept(now, committed)?;
+        }
+        let (answer, _, _) = planned(self.case, now);
+        ensure(answer == self.answer, || {
+            format!("the planner said {:?}, now {answer:?}", self.answer)
+        })?;
+        let mut finished = now.to_vec();
+        let full = full_run(self.case, &mut finished);
+        let end = full.map(|answer| answer.0);
+        ensure(end == self.end, || {
+            format!("a full run ended {:?}, now {end:?}", self.end)
+        })?;
+        ensure(finished == self.recovered, || {
+            "a full run ends in other bytes".into()
+        })?;
+        let stores = full.map_or(0, |answer| answer.1);
+        self.check_bound(stores)
+    }
+
+    /// Nothing within reach means that nothing may change at all.
+    fn check_untouched(&self, now: &[u8]) -> Result<(), String> {
+        if self.answer.is_err() {
+            return ensure(now == self.case.cluster, || "a refused call wrote".into());
+        }
+        for replica in 1..=self.case.n {
+            if is_present(self.within_reach, replica) {
+                continue;
+            }
+            let before = image(&self.case.cluster, self.case.m, replica);
+            ensure(image(now, self.case.m, replica) == before, || {
+                format!("replica {replica} is out of reach and was written")
+            })?;
+        }
+        Ok(())
+    }
+
+    /// A committed payload stays where it was, and nothing else appears in its place.
+    fn check_kept(&self, now: &[u8], committed: &Committed) -> Result<(), String> {
+        let Committed { slot, epoch, .. } = *committed;
+        for replica in self.replicas_within_reach() {
+            let log = self.log(now, replica)?;
+            let used = slot <= log.length && log.epoch(slot) == epoch;
+            let now = entry(now, self.case.m, replica, slot);
+            if is_present(committed.holders, replica) {
+                ensure(used, || {
+                    format!("replica {replica} lost slot {slot} of epoch {epoch}")
+                })?;
+                let before = entry(&self.case.cluster, self.case.m, replica, slot);
+                ensure(!intact_under(before, slot, epoch) || now == before, || {
+                    format!("replica {replica} lost its intact entry at slot {slot}")
+                })?;
+            }
+            if let (true, EntryState::Intact(found, payload)) = (used, judge_entry(now, slot)) {
+                ensure(found != epoch || payload == committed.payload, || {
+                    format!("replica {replica} has another payload at slot {slot}")
+                })?;
+            }
+        }
+        Ok(())
+    }
+
+    /// No run makes more than m x (3 x n - 2) stores, so none more than 3 x n x m.
+    pub fn check_bound(&self, stores: u64) -> Result<(), String> {
+        if self.answer.is_err() {
+            return ensure(stores == 0, || "a refused run made stores".into());
+        }
+        let bound = (self.case.m * (3 * self.case.n - 2)) as u64;
+        ensure(stores <= bound, || format!("a run made {stores} stores"))
+    }
+
+    /// What comes next in a cluster, under the numbers of the case.
+    pub fn next(&self, now: &[u8]) -> Result<Next, Refusal> {
+        let case = self.case;
+        next_store(now, case.n, case.m, case.leader, case.present)
+    }
+
+    fn replicas_within_reach(&self) -> impl Iterator<Item = usize> + '_ {
+        (1..=self.case.n).filter(|&replica| is_present(self.within_reach, replica))
+    }
+
+    fn log(&self, cluster: &[u8], replica: usize) -> Result<Log, String> {
+        let (n, m) = (self.case.n, self.case.m);
+        judge_image(image(cluster, m, replica), replica, n, m)
+            .map_err(|refusal| format!("replica {replica} is refused: {refusal:?}"))
+    }
+}
+
+/// Plans with lent buffers of the right length. Wrong numbers get small ones.
+pub fn planned(case: &Case, cluster: &[u8]) -> (Result<Answer, Refusal>, Vec<u8>, Vec<ReplicaRow>) {
+    let mut bytes = vec![0xee; case.m.min(1000)];
+    let mut rows = vec![ReplicaRow::default(); case.n.min(1000)];
+    let answer = plan(
+        cluster,
+        case.n,
+        case.m,
+        case.leader,
+        case.present,
+        &mut bytes,
+        &mut rows,
+    );
+    (answer, bytes, rows)
+}
+
+/// A run of budget 3 x n x m: how it ends, and its count.
+pub fn full_run(case: &Case, cluster: &mut [u8]) -> Result<(RunEnd, u64), Refusal> {
+    let budget = (case.n as u64).saturating_mul(case.m as u64);
+    let budget = budget.saturating_mul(3);
+    let answer = run(cluster, case.n, case.m, case.leader, case.present, budget)?;
+    Ok((answer.end, answer.stores))
+}
+
+fn image(cluster: &[u8], m: usize, replica: usize) -> &[u8] {
+    let at = image_offset(m, replica);
+    &cluster[at..at + image_len(m)]
+}
+
+fn record(cluster: &[u8], m: usize, replica: usize, slot: usize) -> &[u8] {
+    let at = record_offset(slot);
+    &image(cluster, m, replica)[at..at + RECORD_LEN]
+}
+
+fn entry(cluster: &[u8], m: usize, replica: usize, slot: usize) -> &[u8] {
+    let at = entry_offset(m, slot);
+    &image(cluster, m, replica)[at..at + ENTRY_LEN]
+}

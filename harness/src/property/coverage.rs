@@ -1,0 +1,54 @@
+//! What a round of cases has met, so that a test can ask for everything to occur.
+
+use std::fmt;
+
+/// Counts over all cases of a round.
+#[derive(Clone, Debug, Default, PartialEq, Eq)]
+pub struct Coverage {
+    pub ready: u64,
+    pub waiting: u64,
+    pub refused: u64,
+    /// Plans that truncate the leader.
+    pub truncated: u64,
+    pub committed: u64,
+    /// Committed payloads whose copy on the leader was faulty, with a copy within reach.
+    pub fetched: u64,
+    /// The same with none.
+    pub out_of_reach: u64,
+    /// Committed payloads whose record on the leader was lost.
+    pub records_lost: u64,
+    /// Entry stores cut in the middle.
+    pub torn: u64,
+    /// Cuts before or after a store, or of a record.
+    pub cut: u64,
+    pub refused_calls: u64,
+    pub spent: u64,
+    /// States in which every conclusion was checked.
+    pub states: u64,
+    pub most_stores: u64,
+}
+
+impl fmt::Display for Coverage {
+    fn fmt(&self, f: &mut fmt::Formatter) -> fmt::Result {
+        writeln!(
+            f,
+            "  plans: {} ready ({} truncate), {} waiting, {} refused",
+            self.ready, self.truncated, self.waiting, self.refused
+        )?;
+        writeln!(
+            f,
+            "  committed: {}, of them fetched {}, out of reach {}, record lost {}",
+            self.committed, self.fetched, self.out_of_reach, self.records_lost
+        )?;
+        writeln!(
+            f,
+            "  power cuts: {} torn entries, {} others; refused calls: {}; runs spent: {}",
+            self.torn, self.cut, self.refused_calls, self.spent
+        )?;
+        write!(
+            f,
+            "  states checked: {}; most stores in a run: {}",
+            self.states, self.most_stores
+        )
+    }
+}

@@ -1,0 +1,132 @@
+//! Reading, payloads and appending on images of any bytes.
+
+use super::ensure;
+use crate::generate::{noise_image, noise_report_input, ImageCase, Rng};
+use crate::model::{
+    append, entry_offset, has_payload, payload, read, record_offset, report, Refusal, Verdict,
+    ENTRY_LEN, RECORD_LEN,
+};
+
+/// How often each refusal came, by its number; 0 counts what was accepted.
+#[derive(Clone, Debug, Default, PartialEq, Eq)]
+pub struct ImageCoverage {
+    pub read: [u64; 15],
+    pub append: [u64; 15],
+    pub report: [u64; 15],
+    pub verdicts: [u64; 6],
+}
+
+/// One generated image, and one input of the printing program.
+pub fn check_image(rng: &mut Rng, coverage: &mut ImageCoverage) -> Result<(), String> {
+    let case = noise_image(rng);
+    check_read(rng, &case, coverage)?;
+    check_append(rng, &case, coverage)?;
+    check_report(rng, coverage)
+}
+
+fn number<T>(answer: &Result<T, Refusal>) -> usize {
+    match answer {
+        Ok(_) => 0,
+        Err(refusal) => usize::from(refusal.number()),
+    }
+}
+
+fn check_read(rng: &mut Rng, case: &ImageCase, coverage: &mut ImageCoverage) -> Result<(), String> {
+    let ImageCase {
+        replica,
+        n,
+        m,
+        image,
+    } = case;
+    let lent = if rng.chance(5) {
+        rng.below(9)
+    } else {
+        *m.min(&100)
+    };
+    let mut epochs = vec![99; lent];
+    let mut verdicts = vec![99; lent];
+    let answer = read(image, *replica, *n, *m, &mut epochs, &mut verdicts);
+    coverage.read[number(&answer)] += 1;
+    let untouched = epochs.iter().all(|&epoch| epoch == 99) && verdicts.iter().all(|&v| v == 99);
+    ensure(answer.is_ok() || untouched, || {
+        "a refused read filled what it was lent".into()
+    })?;
+    for slot in [0, 1, m / 2, *m, m.wrapping_add(1)] {
+        let has = has_payload(image, *replica, *n, *m, slot);
+        let part = payload(image, *replica, *n, *m, slot);
+        ensure(has == Ok(true) || part.is_empty(), || {
+            format!("slot {slot} has no payload, yet one is given")
+        })?;
+        let Ok(length) = answer else {
+            let lent_only = answer == Err(Refusal::LentLength);
+            ensure(lent_only || has.err() == answer.err(), || {
+                format!("{answer:?} but {has:?}")
+            })?;
+            continue;
+        };
+        let used = (1..=length).contains(&slot);
+        let whole = used && (verdicts[slot - 1] == 1 || verdicts[slot - 1] == 2);
+        ensure(has == Ok(whole), || format!("slot {slot}: {has:?}"))?;
+    }
+    if answer.is_ok() {
+        for &verdict in &verdicts {
+            coverage.verdicts[usize::from(verdict)] += 1;
+        }
+    }
+    Ok(())
+}
+
+fn check_append(
+    rng: &mut Rng,
+    case: &ImageCase,
+    coverage: &mut ImageCoverage,
+) -> Result<(), String> {
+    let ImageCase { replica, n, m, .. } = *case;
+    let mut image = case.image.clone();
+    let epoch = *rng.pick(&[0, 1, 2, 3, u32::MAX, u32::MAX]);
+    let length = *rng.pick(&[0, 1, 7, 199, 200, 200, 201]);
+    let bytes = vec![rng.byte(); length];
+    let answer = append(&mut image, replica, n, m, epoch, &bytes);
+    coverage.append[number(&answer)] += 1;
+    let Ok(slot) = answer else {
+        return ensure(image == case.image, || "a refused append wrote".into());
+    };
+    let mut epochs = vec![0; m];
+    let mut verdicts = vec![0; m];
+    let length = read(&image, replica, n, m, &mut epochs, &mut verdicts);
+    ensure(length == Ok(slot), || {
+        format!("length {length:?} after {slot}")
+    })?;
+    let intact = verdicts[slot - 1] == Verdict::Intact as u8 && epochs[slot - 1] == epoch;
+    ensure(intact, || format!("slot {slot} is not intact after append"))?;
+    let same = payload(&image, replica, n, m, slot) == bytes;
+    ensure(same, || format!("slot {slot} has another payload"))?;
+    // All other bytes are as before.
+    for (at, length) in [
+        (record_offset(slot), RECORD_LEN),
+        (entry_offset(m, slot), ENTRY_LEN),
+    ] {
+        let old = &case.image[at..at + length];
+        image[at..at + length].copy_from_slice(old);
+    }
+    ensure(image == case.image, || "append wrote elsewhere".into())
+}
+
+fn check_report(rng: &mut Rng, coverage: &mut ImageCoverage) -> Result<(), String> {
+    let input = noise_report_input(rng);
+    let output = report(&input);
+    ensure(output.last() == Some(&b'\n'), || {
+        "no newline at the end".into()
+    })?;
+    let refused = output.strip_prefix(b"refused");
+    let number = match refused {
+        None => 0,
+        Some(rest) => {
+            let text = String::from_utf8_lossy(rest);
+            ensure(rest.len() == 5, || format!("refused{text}"))?;
+            text.trim().parse::<usize>().map_err(|_| text.to_string())?
+        }
+    };
+    coverage.report[number] += 1;
+    Ok(())
+}

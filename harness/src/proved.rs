@@ -1,0 +1,186 @@
+//! The proved functions of `ropelog`, safe to call with any arguments.
+//!
+//! A number that a call hands out goes to a lent one, which keeps its value otherwise.
+
+pub mod clusters;
+pub mod images;
+
+/// A slice is passed as its pointer and then its length.
+mod exported {
+    extern "C" {
+        pub fn rope_checksum(bytes: *const u8, len: usize) -> u32;
+        pub fn rope_write_number(column: *mut u8, len: usize, number: u64);
+        pub fn rope_read_column(column: *const u8, len: usize, value: *mut u64) -> u8;
+        pub fn rope_write_header(
+            header: *mut u8,
+            len: usize,
+            replica: usize,
+            n: usize,
+            m: usize,
+        ) -> u8;
+        pub fn rope_write_record(record: *mut u8, len: usize, epoch: u32, index: u32) -> u8;
+        pub fn rope_write_blank_record(record: *mut u8, len: usize) -> u8;
+        pub fn rope_write_entry(
+            entry: *mut u8,
+            len: usize,
+            epoch: u32,
+            index: u32,
+            payload: *const u8,
+            payload_len: usize,
+        ) -> u8;
+        pub fn rope_write_fresh_entry(entry: *mut u8, len: usize) -> u8;
+        pub fn rope_is_header(
+            header: *const u8,
+            len: usize,
+            replica: usize,
+            n: usize,
+            m: usize,
+        ) -> u8;
+        pub fn rope_judge_record(record: *const u8, len: usize, index: u32, epoch: *mut u32) -> u8;
+        pub fn rope_judge_entry(
+            entry: *const u8,
+            len: usize,
+            index: u32,
+            epoch: *mut u32,
+            size: *mut usize,
+        ) -> u8;
+    }
+}
+
+/// What a writer did. Unless it wrote, every byte is as it was.
+#[derive(Clone, Copy, Debug, PartialEq, Eq)]
+pub enum Written {
+    Written,
+    WrongLength,
+    PayloadTooLong,
+}
+
+/// What stands in a column.
+#[derive(Clone, Copy, Debug, PartialEq, Eq)]
+pub enum Column {
+    /// A number, which was handed out.
+    Number,
+    Blank,
+    Malformed,
+    WrongLength,
+}
+
+/// What a record is.
+#[derive(Clone, Copy, Debug, PartialEq, Eq)]
+pub enum Record {
+    /// Good; its epoch was handed out.
+    Good,
+    Blank,
+    Bad,
+    WrongLength,
+}
+
+/// What an entry is.
+#[derive(Clone, Copy, Debug, PartialEq, Eq)]
+pub enum Entry {
+    /// Intact; its epoch and its payload's length were handed out.
+    Intact,
+    Broken,
+    WrongLength,
+}
+
+pub fn checksum(bytes: &[u8]) -> u32 {
+    unsafe { exported::rope_checksum(bytes.as_ptr(), bytes.len()) }
+}
+
+/// Writes over the whole column.
+pub fn write_number(column: &mut [u8], number: u64) {
+    unsafe { exported::rope_write_number(column.as_mut_ptr(), column.len(), number) }
+}
+
+pub fn read_column(column: &[u8], value: &mut u64) -> Column {
+    match unsafe { exported::rope_read_column(column.as_ptr(), column.len(), value) } {
+        0 => Column::Number,
+        1 => Column::Blank,
+        2 => Column::Malformed,
+        3 => Column::WrongLength,
+        code => no_such("rope_read_column", code),
+    }
+}
+
+pub fn write_header(header: &mut [u8], replica: usize, n: usize, m: usize) -> Written {
+    let (pointer, len) = (header.as_mut_ptr(), header.len());
+    written("rope_write_header", unsafe {
+        exported::rope_write_header(pointer, len, replica, n, m)
+    })
+}
+
+pub fn write_record(record: &mut [u8], epoch: u32, index: u32) -> Written {
+    let (pointer, len) = (record.as_mut_ptr(), record.len());
+    written("rope_write_record", unsafe {
+        exported::rope_write_record(pointer, len, epoch, index)
+    })
+}
+
+pub fn write_blank_record(record: &mut [u8]) -> Written {
+    let (pointer, len) = (record.as_mut_ptr(), record.len());
+    written("rope_write_blank_record", unsafe {
+        exported::rope_write_blank_record(pointer, len)
+    })
+}
+
+pub fn write_entry(entry: &mut [u8], epoch: u32, index: u32, payload: &[u8]) -> Written {
+    let (pointer, len) = (entry.as_mut_ptr(), entry.len());
+    let (payload, payload_len) = (payload.as_ptr(), payload.len());
+    let code =
+        unsafe { exported::rope_write_entry(pointer, len, epoch, index, payload, payload_len) };
+    match code {
+        9 => Written::PayloadTooLong,
+        code => written("rope_write_entry", code),
+    }
+}
+
+pub fn write_fresh_entry(entry: &mut [u8]) -> Written {
+    let (pointer, len) = (entry.as_mut_ptr(), entry.len());
+    written("rope_write_fresh_entry", unsafe {
+        exported::rope_write_fresh_entry(pointer, len)
+    })
+}
+
+pub fn is_header(header: &[u8], replica: usize, n: usize, m: usize) -> bool {
+    let (pointer, len) = (header.as_ptr(), header.len());
+    match unsafe { exported::rope_is_header(pointer, len, replica, n, m) } {
+        0 => false,
+        1 => true,
+        code => no_such("rope_is_header", code),
+    }
+}
+
+pub fn judge_record(record: &[u8], index: u32, epoch: &mut u32) -> Record {
+    let (pointer, len) = (record.as_ptr(), record.len());
+    match unsafe { exported::rope_judge_record(pointer, len, index, epoch) } {
+        0 => Record::Good,
+        1 => Record::Blank,
+        2 => Record::Bad,
+        3 => Record::WrongLength,
+        code => no_such("rope_judge_record", code),
+    }
+}
+
+pub fn judge_entry(entry: &[u8], index: u32, epoch: &mut u32, size: &mut usize) -> Entry {
+    let (pointer, len) = (entry.as_ptr(), entry.len());
+    match unsafe { exported::rope_judge_entry(pointer, len, index, epoch, size) } {
+        0 => Entry::Intact,
+        1 => Entry::Broken,
+        3 => Entry::WrongLength,
+        code => no_such("rope_judge_entry", code),
+    }
+}
+
+fn written(function: &str, code: u8) -> Written {
+    match code {
+        0 => Written::Written,
+        3 => Written::WrongLength,
+        code => no_such(function, code),
+    }
+}
+
+/// A code that the contract rules out: the archive is not the one these declarations are for.
+fn no_such(function: &str, code: u8) -> ! {
+    panic!("{function} answered {code}, which its contract rules out")
+}

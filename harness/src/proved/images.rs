@@ -1,0 +1,131 @@
+//! One image: each call answers 0, or the refusal's number, and then nothing that was lent has
+//! changed. Only `payload` answers otherwise.
+
+/// A slice is passed as its pointer and then its length.
+mod exported {
+    extern "C" {
+        pub fn rope_format(image: *mut u8, len: usize, replica: usize, n: usize, m: usize) -> u8;
+        pub fn rope_append(
+            image: *mut u8,
+            len: usize,
+            replica: usize,
+            n: usize,
+            m: usize,
+            epoch: u32,
+            payload: *const u8,
+            payload_len: usize,
+            slot: *mut usize,
+        ) -> u8;
+        pub fn rope_read(
+            image: *const u8,
+            len: usize,
+            replica: usize,
+            n: usize,
+            m: usize,
+            epochs: *mut u32,
+            epochs_len: usize,
+            verdicts: *mut u8,
+            verdicts_len: usize,
+            used: *mut usize,
+        ) -> u8;
+        pub fn rope_has_payload(
+            image: *const u8,
+            len: usize,
+            replica: usize,
+            n: usize,
+            m: usize,
+            slot: usize,
+            has: *mut u8,
+        ) -> u8;
+        pub fn rope_payload(
+            image: *const u8,
+            len: usize,
+            replica: usize,
+            n: usize,
+            m: usize,
+            slot: usize,
+            at: *mut usize,
+            size: *mut usize,
+        ) -> u8;
+    }
+}
+
+/// Writes a fresh image over the whole lent buffer.
+pub fn format(image: &mut [u8], replica: usize, n: usize, m: usize) -> u8 {
+    unsafe { exported::rope_format(image.as_mut_ptr(), image.len(), replica, n, m) }
+}
+
+/// Appends, and hands out the slot.
+pub fn append(
+    image: &mut [u8],
+    replica: usize,
+    n: usize,
+    m: usize,
+    epoch: u32,
+    payload: &[u8],
+    slot: &mut usize,
+) -> u8 {
+    let (image, len) = (image.as_mut_ptr(), image.len());
+    let (payload, payload_len) = (payload.as_ptr(), payload.len());
+    unsafe { exported::rope_append(image, len, replica, n, m, epoch, payload, payload_len, slot) }
+}
+
+/// Reads into the two lent buffers, and hands out the log's length.
+pub fn read(
+    image: &[u8],
+    replica: usize,
+    n: usize,
+    m: usize,
+    epochs: &mut [u32],
+    verdicts: &mut [u8],
+    used: &mut usize,
+) -> u8 {
+    let (image, len) = (image.as_ptr(), image.len());
+    let (epochs, epochs_len) = (epochs.as_mut_ptr(), epochs.len());
+    let (verdicts, verdicts_len) = (verdicts.as_mut_ptr(), verdicts.len());
+    unsafe {
+        exported::rope_read(
+            image,
+            len,
+            replica,
+            n,
+            m,
+            epochs,
+            epochs_len,
+            verdicts,
+            verdicts_len,
+            used,
+        )
+    }
+}
+
+/// Hands out 1 if the slot has a payload and 0 if not.
+pub fn has_payload(
+    image: &[u8],
+    replica: usize,
+    n: usize,
+    m: usize,
+    slot: usize,
+    has: &mut u8,
+) -> u8 {
+    let (pointer, len) = (image.as_ptr(), image.len());
+    unsafe { exported::rope_has_payload(pointer, len, replica, n, m, slot, has) }
+}
+
+/// Whether the slot has a payload; hands out its offset in the image and its length.
+pub fn payload(
+    image: &[u8],
+    replica: usize,
+    n: usize,
+    m: usize,
+    slot: usize,
+    at: &mut usize,
+    size: &mut usize,
+) -> bool {
+    let (pointer, len) = (image.as_ptr(), image.len());
+    match unsafe { exported::rope_payload(pointer, len, replica, n, m, slot, at, size) } {
+        0 => false,
+        1 => true,
+        code => super::no_such("rope_payload", code),
+    }
+}

@@ -1,0 +1,151 @@
+//! The command line: what it prints, and that every mistake is told and fails.
+
+use std::fs;
+use std::io::Write;
+use std::process::{Command, Output, Stdio};
+
+use harness::generate::Cluster;
+use harness::model::report;
+
+fn harness(arguments: &[&str]) -> Output {
+    Command::new(env!("CARGO_BIN_EXE_harness"))
+        .args(arguments)
+        .stdin(Stdio::null())
+        .output()
+        .expect("the program starts")
+}
+
+fn stdout(output: &Output) -> String {
+    assert!(output.status.success(), "{output:?}");
+    assert!(output.stderr.is_empty(), "{output:?}");
+    String::from_utf8(output.stdout.clone()).unwrap()
+}
+
+/// A mistake prints nothing, names itself on the error channel, and fails.
+fn assert_mistake(arguments: &[&str], word: &str) {
+    let output = harness(arguments);
+    assert!(!output.status.success(), "{arguments:?}");
+    assert!(output.stdout.is_empty(), "{arguments:?}");
+    let message = String::from_utf8(output.stderr).unwrap();
+    assert!(message.starts_with("harness: "), "{message}");
+    assert!(message.contains(word), "{arguments:?}: {message}");
+}
+
+fn example_input() -> Vec<u8> {
+    let mut cluster = Cluster::fresh(3, 2);
+    cluster.put(1, 1, 1, b"one");
+    cluster.put(1, 2, 1, b"two");
+    cluster.entry_mut(1, 1).fill(b'#');
+    cluster.put(2, 1, 1, b"one");
+    let mut input = b"  3  2  1   7\n".to_vec();
+    input.extend(&cluster.bytes);
+    input
+}
+
+const EXAMPLE_OUTPUT: &str = "   3   1   0   2\n   1          1  12\n   2          1   1\n";
+
+#[test]
+fn report_of_a_file() {
+    let name = format!("harness-cli-{}.input", std::process::id());
+    let file = std::env::temp_dir().join(name);
+    fs::write(&file, example_input()).unwrap();
+    let output = harness(&["report", file.to_str().unwrap()]);
+    fs::remove_file(&file).unwrap();
+    assert_eq!(stdout(&output), EXAMPLE_OUTPUT);
+}
+
+#[test]
+fn report_of_standard_input() {
+    for input in [example_input(), Vec::new(), vec![b' '; 65_537]] {
+        let mut child = Command::new(env!("CARGO_BIN_EXE_harness"))
+            .args(["report", "-"])
+            .stdin(Stdio::piped())
+            .stdout(Stdio::piped())
+            .stderr(Stdio::piped())
+            .spawn()
+            .expect("the program starts");
+        child.stdin.take().unwrap().write_all(&input).unwrap();
+        let output = child.wait_with_output().unwrap();
+        assert_eq!(stdout(&output).as_bytes(), report(&input));
+    }
+}
+
+#[test]
+fn sample_is_an_input_of_the_printed_example() {
+    let output = harness(&["sample"]);
+    assert!(output.status.success(), "{output:?}");
+    assert_eq!(report(&output.stdout), EXAMPLE_OUTPUT.as_bytes());
+}
+
+#[test]
+fn table_prints_its_counts() {
+    let printed = stdout(&harness(&["table"]));
+    assert_eq!(printed, "recovered 2401\nwaiting 1695\nharmed 0\n");
+}
+
+#[test]
+fn property_prints_a_summary() {
+    let first = stdout(&harness(&["property", "--cases", "20", "--seed", "5"]));
+    assert!(first.ends_with("all conclusions hold\n"), "{first}");
+    let swapped = stdout(&harness(&["property", "--seed", "5", "--cases", "20"]));
+    assert_eq!(first, swapped);
+}
+
+#[test]
+fn unknown_or_missing_subcommands() {
+    assert_mistake(&[], "subcommand is missing");
+    assert_mistake(&["nonsense"], "unknown subcommand 'nonsense'");
+    assert_mistake(&["--cases", "1"], "unknown subcommand '--cases'");
+}
+
+#[test]
+fn wrong_arguments_of_report() {
+    assert_mistake(&["report"], "one FILE");
+    assert_mistake(&["report", "a", "b"], "one FILE");
+    assert_mistake(&["report", "--file"], "unknown flag '--file'");
+    assert_mistake(&["report", "/no/such/file"], "cannot read '/no/such/file'");
+}
+
+#[test]
+fn wrong_arguments_of_property() {
+    assert_mistake(&["property"], "--cases is missing");
+    assert_mistake(&["property", "--cases", "1"], "--seed is missing");
+    assert_mistake(&["property", "--cases"], "--cases needs a value");
+    assert_mistake(
+        &["property", "--cases", "x", "--seed", "1"],
+        "needs a number",
+    );
+    assert_mistake(
+        &["property", "--cases", "-1", "--seed", "1"],
+        "needs a number",
+    );
+    assert_mistake(&["property", "--case", "1"], "unknown flag '--case'");
+    let twice = ["property", "--seed", "1", "--seed", "2", "--cases", "1"];
+    assert_mistake(&twice, "given twice");
+}
+
+#[test]
+fn wrong_arguments_of_table_and_sample() {
+    assert_mistake(&["table", "extra"], "no argument");
+    assert_mistake(&["sample", "extra"], "no argument");
+    assert_mistake(&["table", "--all"], "unknown flag '--all'");
+}
+
+/// Only the form of the table: times depend on the machine and its load.
+#[test]
+fn bench_prints_a_table() {
+    let printed = stdout(&harness(&["bench"]));
+    let lines: Vec<&str> = printed.lines().collect();
+    let words: Vec<&str> = lines[0].split_whitespace().collect();
+    assert_eq!(words, ["proved", "model", "ratio"]);
+    for name in ["checksum", "judge_record", "judge_entry"] {
+        assert!(lines.iter().any(|line| line.starts_with(name)), "{printed}");
+    }
+}
+
+#[test]
+fn wrong_arguments_of_bench() {
+    assert_mistake(&["bench", "extra"], "bench takes no argument, not 'extra'");
+    assert_mistake(&["bench", "--rounds"], "unknown flag '--rounds'");
+    assert_mistake(&["bench", "--rounds", "5"], "unknown flag '--rounds'");
+}

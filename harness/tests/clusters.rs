@@ -1,0 +1,392 @@
+//! The proved calls about a cluster against the model's, on generated clusters: the same answers,
+//! the same bytes in everything that was lent, and nothing written outside.
+
+use std::thread;
+
+use harness::generate::{agreed_case, arbitrary_case, noise_cluster, Case, Cluster, Rng};
+use harness::guarded::{Guarded, GuardedNumber};
+use harness::model::{self, Answer, Refusal, ReplicaRow, RunAnswer, RunEnd, StepAnswer, MAX_SLOTS};
+use harness::property::case_rng;
+use harness::proved::clusters as proved;
+
+const CLUSTERS: u64 = 1_000_000;
+/// Clusters that are stepped and run to their ends.
+const RECOVERIES: u64 = 30_000;
+const THREADS: u64 = 2;
+
+/// How often each refusal came, by its number, 0 for none; each status; each byte of a plan.
+#[derive(Clone, Debug, PartialEq, Eq)]
+struct Coverage {
+    refusals: [u64; 14],
+    statuses: [u64; 2],
+    bytes: [u64; 18],
+}
+
+impl Coverage {
+    fn new() -> Coverage {
+        Coverage {
+            refusals: [0; 14],
+            statuses: [0; 2],
+            bytes: [0; 18],
+        }
+    }
+
+    fn add(&mut self, other: &Coverage) {
+        let pairs = [
+            (&mut self.refusals[..], &other.refusals[..]),
+            (&mut self.statuses, &other.statuses),
+            (&mut self.bytes, &other.bytes),
+        ];
+        for (sum, more) in pairs {
+            for (sum, more) in sum.iter_mut().zip(more) {
+                *sum += more;
+            }
+        }
+    }
+
+    /// Each of these came up in at least one cluster of so many.
+    fn assert_covers(&self, clusters: u64, one_of: u64) {
+        let enough = |what: &str, counts: &[u64], numbers: &[usize]| {
+            for &number in numbers {
+                let count = counts[number];
+                assert!(count * one_of >= clusters, "{what} {number}: {count}");
+            }
+        };
+        enough("refusal", &self.refusals, &[0, 1, 2, 3, 11, 12, 13]);
+        enough("status", &self.statuses, &[0, 1]);
+        let bytes = [0, 1, 2, 3, 4, 5, 11, 12, 13, 14, 15, 16, 17];
+        enough("plan byte", &self.bytes, &bytes);
+    }
+}
+
+/// A cluster, what the planner's call names, and how long the plan is that it is lent.
+#[derive(Clone, Debug)]
+struct Planning {
+    case: Case,
+    slots: usize,
+}
+
+/// Prints the case that fails.
+struct Shown<'a>(&'a Planning);
+
+impl Drop for Shown<'_> {
+    fn drop(&mut self) {
+        if thread::panicking() {
+            let Planning { case, slots } = self.0;
+            let Case {
+                n,
+                m,
+                leader,
+                present,
+                cluster,
+            } = case;
+            eprintln!(
+                "failed: n {n}, m {m}, leader {leader}, present {present:#b}, plan of {slots}"
+            );
+            eprintln!("b\"{}\"", cluster.escape_ascii());
+        }
+    }
+}
+
+/// 0, or the refusal's number.
+fn number<T>(answer: Result<T, Refusal>) -> u8 {
+    answer.err().map_or(0, Refusal::number)
+}
+
+/// Plans by both.
+fn compare(planning: &Planning) -> Coverage {
+    let _shown = Shown(planning);
+    let &Planning { ref case, slots } = planning;
+    let &Case {
+        n,
+        m,
+        leader,
+        present,
+        ..
+    } = case;
+    let mut rng = Rng::new(case.cluster.len() as u64 ^ u64::from(present));
+    let cluster = Guarded::new(&mut rng, &case.cluster);
+    let mut all: Vec<u8> = (0..slots).map(|_| rng.byte()).collect();
+    let mut plan = Guarded::new(&mut rng, &all);
+    let (old_status, old_number) = (rng.byte(), rng.draw() as usize);
+    let mut status = GuardedNumber::new(old_status, rng.byte());
+    let mut slot = GuardedNumber::new(old_number, rng.draw() as usize);
+    let answer = proved::plan_bytes(
+        cluster.part(),
+        n,
+        m,
+        leader,
+        present,
+        plan.part_mut(),
+        status.number_mut(),
+        slot.number_mut(),
+    );
+    // A table of n rows, unless n is refused in any case.
+    let mut rows = [ReplicaRow::default(); 9];
+    let rows = &mut rows[..n.min(9)];
+    let expected = model::plan(&case.cluster, n, m, leader, present, &mut all, rows);
+    assert_eq!(answer, number(expected), "plan");
+    let (named_status, named_number) = match expected {
+        Ok(Answer::Ready(length)) => (0, length),
+        Ok(Answer::Waiting(slot)) => (1, slot),
+        Err(_) => (old_status, old_number),
+    };
+    status.assert_is(named_status);
+    slot.assert_is(named_number);
+    plan.assert_holds(&all);
+    cluster.assert_holds(&case.cluster);
+    let mut coverage = Coverage::new();
+    coverage.refusals[usize::from(answer)] += 1;
+    if answer == 0 {
+        coverage.statuses[usize::from(named_status)] += 1;
+        for byte in all {
+            coverage.bytes[usize::from(byte)] += 1;
+        }
+    }
+    coverage
+}
+
+/// Any cluster, and now and then a plan that is too short or too long.
+fn some_planning(rng: &mut Rng) -> Planning {
+    let mut case = match rng.below(10) {
+        0..=4 => agreed_case(rng).case,
+        5..=7 => arbitrary_case(rng),
+        _ => noise_cluster(rng),
+    };
+    if rng.chance(1) {
+        case.leader = *rng.pick(&[0, 1, case.n, case.n.wrapping_add(1), 8, 32, 33, usize::MAX]);
+    }
+    let slots = case.m.min(MAX_SLOTS + 1);
+    let slots = if rng.chance(3) {
+        *rng.pick(&[0, slots.saturating_sub(1), slots + 1, MAX_SLOTS, 100])
+    } else {
+        slots
+    };
+    Planning { case, slots }
+}
+
+#[test]
+fn plans() {
+    let part = |from: u64| {
+        let mut coverage = Coverage::new();
+        for number in (from..CLUSTERS).step_by(THREADS as usize) {
+            coverage.add(&compare(&some_planning(&mut case_rng(11, number))));
+        }
+        coverage
+    };
+    let mut coverage = Coverage::new();
+    thread::scope(|scope| {
+        let parts: Vec<_> = (0..THREADS)
+            .map(|from| scope.spawn(move || part(from)))
+            .collect();
+        for part in parts {
+            coverage.add(&part.join().expect("a case failed"));
+        }
+    });
+    assert_eq!(coverage.refusals.iter().sum::<u64>(), CLUSTERS);
+    coverage.assert_covers(CLUSTERS, 2000);
+}
+
+/// Full logs of every slot count, each entry of the leader damaged in turn.
+#[test]
+fn plans_of_every_slot_count() {
+    for m in 1..=MAX_SLOTS {
+        for n in [3, 5, 7] {
+            let mut cluster = Cluster::fresh(n, m);
+            for replica in 1..=n {
+                for slot in 1..=m {
+                    cluster.put(replica, slot, 1 + slot as u32 / 7, b"payload");
+                }
+            }
+            let leader = 1 + m % n;
+            for slot in [1, m / 2 + 1, m] {
+                cluster.entry_mut(leader, slot)[26] ^= 1;
+                let coverage = compare(&Planning {
+                    case: Case {
+                        n,
+                        m,
+                        leader,
+                        present: (1 << n) - 1,
+                        cluster: cluster.bytes.clone(),
+                    },
+                    slots: m,
+                });
+                assert_eq!(coverage.statuses, [1, 0]);
+            }
+        }
+    }
+}
+
+/// How recoveries went: each refusal, each status of a step and of a run, each kind of store.
+#[derive(Clone, Debug, Default, PartialEq, Eq)]
+struct Recoveries {
+    refusals: [u64; 14],
+    steps: [u64; 3],
+    runs: [u64; 3],
+    kinds: [u64; 4],
+}
+
+impl Recoveries {
+    fn add(&mut self, other: &Recoveries) {
+        let pairs = [
+            (&mut self.refusals[..], &other.refusals[..]),
+            (&mut self.steps, &other.steps),
+            (&mut self.runs, &other.runs),
+            (&mut self.kinds, &other.kinds),
+        ];
+        for (sum, more) in pairs {
+            for (sum, more) in sum.iter_mut().zip(more) {
+                *sum += more;
+            }
+        }
+    }
+}
+
+/// A step by both on the same bytes. Answers the model's, and leaves what the step left.
+fn compare_step(
+    rng: &mut Rng,
+    case: &Case,
+    now: &mut [u8],
+    seen: &mut Recoveries,
+) -> Result<StepAnswer, Refusal> {
+    let &Case {
+        n,
+        m,
+        leader,
+        present,
+        ..
+    } = case;
+    let mut cluster = Guarded::new(rng, now);
+    let old = (rng.byte(), rng.draw() as usize, rng.draw() as usize);
+    let old_kind = rng.byte();
+    let mut status = GuardedNumber::new(old.0, rng.byte());
+    let mut replica = GuardedNumber::new(old.1, rng.draw() as usize);
+    let mut slot = GuardedNumber::new(old.2, rng.draw() as usize);
+    let mut kind = GuardedNumber::new(old_kind, rng.byte());
+    let answer = proved::step(
+        cluster.part_mut(),
+        n,
+        m,
+        leader,
+        present,
+        status.number_mut(),
+        replica.number_mut(),
+        slot.number_mut(),
+        kind.number_mut(),
+    );
+    let expected = model::step(now, n, m, leader, present);
+    assert_eq!(answer, number(expected), "step");
+    let named = match expected {
+        Err(_) => (old.0, old.1, old.2, old_kind),
+        Ok(StepAnswer::Done) => (0, old.1, old.2, old_kind),
+        Ok(StepAnswer::Waiting(slot)) => (1, old.1, slot, old_kind),
+        Ok(StepAnswer::Store {
+            replica,
+            slot,
+            kind,
+        }) => (2, replica, slot, kind as u8),
+    };
+    status.assert_is(named.0);
+    replica.assert_is(named.1);
+    slot.assert_is(named.2);
+    kind.assert_is(named.3);
+    cluster.assert_holds(now);
+    seen.refusals[usize::from(answer)] += 1;
+    if let Ok(step) = expected {
+        seen.steps[usize::from(named.0)] += 1;
+        if let StepAnswer::Store { kind, .. } = step {
+            seen.kinds[kind as usize] += 1;
+        }
+    }
+    expected
+}
+
+/// A run by both.
+fn compare_run(rng: &mut Rng, case: &Case, budget: u64, seen: &mut Recoveries) {
+    let &Case {
+        n,
+        m,
+        leader,
+        present,
+        ..
+    } = case;
+    let mut cluster = Guarded::new(rng, &case.cluster);
+    let old = (rng.byte(), rng.draw(), rng.draw() as usize);
+    let mut status = GuardedNumber::new(old.0, rng.byte());
+    let mut stores = GuardedNumber::new(old.1, rng.draw());
+    let mut slot = GuardedNumber::new(old.2, rng.draw() as usize);
+    let answer = proved::run(
+        cluster.part_mut(),
+        n,
+        m,
+        leader,
+        present,
+        budget,
+        status.number_mut(),
+        stores.number_mut(),
+        slot.number_mut(),
+    );
+    let mut after = case.cluster.clone();
+    let expected = model::run(&mut after, n, m, leader, present, budget);
+    assert_eq!(answer, number(expected), "run of budget {budget}");
+    let named = match expected {
+        Err(_) => old,
+        Ok(RunAnswer { end, stores }) => match end {
+            RunEnd::Done => (0, stores, old.2),
+            RunEnd::Waiting(slot) => (1, old.1, slot),
+            RunEnd::Spent => (2, stores, old.2),
+        },
+    };
+    status.assert_is(named.0);
+    stores.assert_is(named.1);
+    slot.assert_is(named.2);
+    cluster.assert_holds(&after);
+    seen.refusals[usize::from(answer)] += 1;
+    if expected.is_ok() {
+        seen.runs[usize::from(named.0)] += 1;
+    }
+}
+
+/// Steps to the end, and runs of no budget, of some, of one store too few, and of enough.
+fn compare_recovery(rng: &mut Rng, planning: &Planning) -> Recoveries {
+    let _shown = Shown(planning);
+    let case = &planning.case;
+    let mut seen = Recoveries::default();
+    let mut now = case.cluster.clone();
+    let mut stores: u64 = 0;
+    while let Ok(StepAnswer::Store { .. }) = compare_step(rng, case, &mut now, &mut seen) {
+        stores += 1;
+    }
+    let some = rng.below(stores as usize + 2) as u64;
+    for budget in [0, some, stores.saturating_sub(1), stores, u64::MAX] {
+        compare_run(rng, case, budget, &mut seen);
+    }
+    seen
+}
+
+#[test]
+fn recoveries() {
+    let part = |from: u64| {
+        let mut seen = Recoveries::default();
+        for number in (from..RECOVERIES).step_by(THREADS as usize) {
+            let mut rng = case_rng(12, number);
+            let planning = some_planning(&mut rng);
+            seen.add(&compare_recovery(&mut rng, &planning));
+        }
+        seen
+    };
+    let mut seen = Recoveries::default();
+    thread::scope(|scope| {
+        let parts: Vec<_> = (0..THREADS)
+            .map(|from| scope.spawn(move || part(from)))
+            .collect();
+        for part in parts {
+            seen.add(&part.join().expect("a case failed"));
+        }
+    });
+    for number in [0, 1, 2, 3, 11, 12] {
+        assert!(seen.refusals[number] >= 100, "{seen:?}");
+    }
+    let rest = [&seen.steps[..], &seen.runs, &seen.kinds[1..]];
+    assert!(rest.concat().iter().all(|&count| count >= 100), "{seen:?}");
+}

@@ -1,0 +1,405 @@
+//! The reference places of the paper, and the printed example byte for byte.
+
+use harness::generate::Cluster;
+use harness::model::planner::Reply;
+use harness::model::*;
+
+/// Plans with buffers of the right length and answers all three results.
+fn planned(
+    cluster: &Cluster,
+    leader: usize,
+    present: u32,
+) -> (Result<Answer, Refusal>, Vec<u8>, Vec<ReplicaRow>) {
+    let mut bytes = vec![0xee; cluster.m];
+    let mut rows = vec![ReplicaRow::default(); cluster.n];
+    let answer = plan(
+        &cluster.bytes,
+        cluster.n,
+        cluster.m,
+        leader,
+        present,
+        &mut bytes,
+        &mut rows,
+    );
+    (answer, bytes, rows)
+}
+
+/// Reads replica 1 and answers length, epochs and verdicts.
+fn read_first(cluster: &Cluster) -> Result<(usize, Vec<u32>, Vec<u8>), Refusal> {
+    let mut epochs = vec![7; cluster.m];
+    let mut verdicts = vec![7; cluster.m];
+    let length = read(
+        cluster.image(1),
+        1,
+        cluster.n,
+        cluster.m,
+        &mut epochs,
+        &mut verdicts,
+    )?;
+    Ok((length, epochs, verdicts))
+}
+
+fn spoil(cluster: &mut Cluster, replica: usize, slot: usize) {
+    cluster.entry_mut(replica, slot).fill(b'#');
+}
+
+#[test]
+fn checksum_of_no_bytes() {
+    assert_eq!(checksum(b""), 1);
+}
+
+#[test]
+fn checksum_of_byte_65() {
+    assert_eq!(checksum(b"A"), 4_325_442);
+}
+
+#[test]
+fn checksum_takes_both_sums_modulo_65535() {
+    let mut a: u64 = 1;
+    let mut b: u64 = 0;
+    let bytes = [255u8; 700];
+    for byte in bytes {
+        a += u64::from(byte);
+        b += a;
+    }
+    let expected = (b % 65_535) * 65_536 + a % 65_535;
+    assert_eq!(u64::from(checksum(&bytes)), expected);
+}
+
+#[test]
+fn record_of_epoch_1_index_1() {
+    assert_eq!(&write_record(1, 1), b"          1          1  546505443\n");
+}
+
+#[test]
+fn image_lengths() {
+    assert_eq!(image_len(1), 302);
+    assert_eq!(image_len(64), 17_564);
+    let mut one = vec![0; 302];
+    assert_eq!(fresh_image(&mut one, 1, 3, 1), Ok(()));
+    let mut most = vec![0; 17_564];
+    assert_eq!(fresh_image(&mut most, 7, 7, 64), Ok(()));
+}
+
+#[test]
+fn slot_counts_0_and_65_are_refused() {
+    let mut image = vec![1; image_len(65)];
+    for m in [0, 65, usize::MAX] {
+        assert_eq!(
+            fresh_image(&mut image, 1, 3, m).map_err(Refusal::number),
+            Err(1)
+        );
+    }
+    assert!(image.iter().all(|&byte| byte == 1));
+}
+
+#[test]
+fn payload_of_200_stored_and_201_refused() {
+    let mut cluster = Cluster::fresh(3, 2);
+    let bytes = [0x80; 201];
+    assert_eq!(
+        append(cluster.image_mut(1), 1, 3, 2, 1, &bytes[..200]),
+        Ok(1)
+    );
+    assert_eq!(payload(cluster.image(1), 1, 3, 2, 1), &bytes[..200]);
+    let before = cluster.clone();
+    assert_eq!(
+        append(cluster.image_mut(1), 1, 3, 2, 1, &bytes),
+        Err(Refusal::AppendPayload)
+    );
+    assert_eq!(cluster, before);
+}
+
+#[test]
+fn append_at_the_last_epoch_and_one_lower() {
+    let mut cluster = Cluster::fresh(3, 3);
+    assert_eq!(append(cluster.image_mut(1), 1, 3, 3, 5, b"x"), Ok(1));
+    assert_eq!(append(cluster.image_mut(1), 1, 3, 3, 5, b"y"), Ok(2));
+    assert_eq!(
+        append(cluster.image_mut(1), 1, 3, 3, 4, b"z").map_err(Refusal::number),
+        Err(8)
+    );
+    // The largest epoch is an epoch like any other.
+    assert_eq!(append(cluster.image_mut(1), 1, 3, 3, u32::MAX, b""), Ok(3));
+}
+
+#[test]
+fn bad_record_beside_an_intact_entry() {
+    let mut cluster = Cluster::fresh(3, 1);
+    cluster.put(1, 1, 9, b"x");
+    cluster.record_mut(1, 1)[0] = b'x';
+    assert_eq!(read_first(&cluster), Ok((1, vec![9], vec![2])));
+}
+
+#[test]
+fn both_lost_is_refused() {
+    let mut cluster = Cluster::fresh(3, 1);
+    cluster.put(1, 1, 9, b"x");
+    cluster.record_mut(1, 1)[0] = b'x';
+    spoil(&mut cluster, 1, 1);
+    assert_eq!(read_first(&cluster).map_err(Refusal::number), Err(6));
+}
+
+#[test]
+fn blank_record_before_a_good_one_is_refused() {
+    let mut cluster = Cluster::fresh(3, 2);
+    cluster.put(1, 2, 1, b"x");
+    assert_eq!(read_first(&cluster).map_err(Refusal::number), Err(5));
+}
+
+#[test]
+fn noise_beside_the_last_good_record_is_ambiguous() {
+    let mut cluster = Cluster::fresh(3, 3);
+    cluster.put(1, 1, 1, b"x");
+    spoil(&mut cluster, 1, 1);
+    assert_eq!(read_first(&cluster), Ok((1, vec![1, 0, 0], vec![4, 0, 0])));
+}
+
+#[test]
+fn one_more_used_slot_behind_it_makes_it_corrupt() {
+    let mut cluster = Cluster::fresh(3, 3);
+    cluster.put(1, 1, 1, b"x");
+    cluster.put(1, 2, 1, b"y");
+    spoil(&mut cluster, 1, 1);
+    assert_eq!(read_first(&cluster), Ok((2, vec![1, 1, 0], vec![3, 1, 0])));
+}
+
+/// Five replicas, the leader's only slot faulty; `replies` are those of replicas 2 to 5.
+fn five_replicas(replies: [Option<Reply>; 4]) -> (Answer, u8) {
+    let mut cluster = Cluster::fresh(5, 1);
+    cluster.put(1, 1, 1, b"x");
+    spoil(&mut cluster, 1, 1);
+    let mut present = 1;
+    for (at, reply) in replies.into_iter().enumerate() {
+        let replica = at + 2;
+        let Some(reply) = reply else { continue };
+        present |= 1 << (replica - 1);
+        if reply != Reply::DontHave {
+            cluster.put(replica, 1, 1, b"x");
+        }
+        if reply == Reply::HaveFaulty {
+            spoil(&mut cluster, replica, 1);
+        }
+    }
+    let (answer, bytes, _) = planned(&cluster, 1, present);
+    (answer.unwrap(), bytes[0])
+}
+
+const NO: Option<Reply> = Some(Reply::DontHave);
+const FAULTY: Option<Reply> = Some(Reply::HaveFaulty);
+const YES: Option<Reply> = Some(Reply::Have);
+
+#[test]
+fn three_dont_have_one_away_truncates() {
+    assert_eq!(five_replicas([NO, NO, NO, None]), (Answer::Ready(0), 4));
+    assert_eq!(five_replicas([None, NO, NO, NO]), (Answer::Ready(0), 4));
+}
+
+#[test]
+fn two_dont_have_two_away_waits() {
+    assert_eq!(five_replicas([NO, NO, None, None]), (Answer::Waiting(1), 3));
+}
+
+#[test]
+fn two_dont_have_one_faulty_one_away_waits() {
+    let replies = [NO, NO, FAULTY, None];
+    assert_eq!(five_replicas(replies), (Answer::Waiting(1), 3));
+}
+
+#[test]
+fn three_dont_have_one_intact_fetches() {
+    assert_eq!(five_replicas([NO, NO, NO, YES]), (Answer::Ready(1), 15));
+    assert_eq!(five_replicas([NO, YES, NO, YES]), (Answer::Ready(1), 13));
+}
+
+#[test]
+fn budget_0() {
+    let ends = |cluster: &mut Cluster, present| {
+        let (n, m) = (cluster.n, cluster.m);
+        let before = cluster.clone();
+        let answer = run(&mut cluster.bytes, n, m, 1, present, 0).unwrap();
+        assert_eq!((answer.stores, &*cluster), (0, &before));
+        answer.end
+    };
+    let mut cluster = Cluster::fresh(3, 1);
+    assert_eq!(ends(&mut cluster, 7), RunEnd::Done);
+    cluster.put(1, 1, 1, b"x");
+    assert_eq!(ends(&mut cluster, 7), RunEnd::Spent);
+    spoil(&mut cluster, 1, 1);
+    assert_eq!(ends(&mut cluster, 3), RunEnd::Waiting(1));
+}
+
+/// The cluster of the printed example.
+fn printed_cluster() -> Cluster {
+    let mut cluster = Cluster::fresh(3, 2);
+    cluster.put(1, 1, 1, b"one");
+    cluster.put(1, 2, 1, b"two");
+    spoil(&mut cluster, 1, 1);
+    cluster.put(2, 1, 1, b"one");
+    cluster
+}
+
+#[test]
+fn printed_example() {
+    let mut input = b"  3  2  1   7\n".to_vec();
+    input.extend(&printed_cluster().bytes);
+    let expected = "   3   1   0   2\n   1          1  12\n   2          1   1\n";
+    assert_eq!(String::from_utf8(report(&input)).unwrap(), expected);
+    // A blank present word means all replicas.
+    input[12] = b' ';
+    assert_eq!(String::from_utf8(report(&input)).unwrap(), expected);
+}
+
+#[test]
+fn printed_example_recovers() {
+    let mut cluster = printed_cluster();
+    let mut stores = Vec::new();
+    while let StepAnswer::Store {
+        replica,
+        slot,
+        kind,
+    } = step(&mut cluster.bytes, 3, 2, 1, 7).unwrap()
+    {
+        stores.push((replica, slot, kind as u8));
+    }
+    assert_eq!(
+        stores,
+        [
+            (1, 1, 1),
+            (2, 2, 1),
+            (2, 2, 2),
+            (3, 1, 1),
+            (3, 1, 2),
+            (3, 2, 1),
+            (3, 2, 2),
+        ]
+    );
+    for replica in 1..=3 {
+        assert_eq!(payload(cluster.image(replica), replica, 3, 2, 1), b"one");
+        assert_eq!(payload(cluster.image(replica), replica, 3, 2, 2), b"two");
+    }
+}
+
+#[test]
+fn rows_of_the_printed_example() {
+    let (answer, bytes, rows) = planned(&printed_cluster(), 1, 7);
+    assert_eq!(answer, Ok(Answer::Ready(2)));
+    assert_eq!(bytes, [12, 1]);
+    let row = |readable, length, last_epoch| ReplicaRow {
+        readable,
+        length,
+        last_epoch,
+    };
+    assert_eq!(rows, [row(1, 2, 1), row(1, 1, 1), row(1, 0, 0)]);
+}
+
+#[test]
+fn header_bytes() {
+    let header = write_header(2, 3, 64);
+    assert_eq!(&header[..16], b"rope  1  2  3 64");
+    let sum = checksum(&header[..16]).to_string();
+    assert_eq!(&header[16..], format!("{sum:>11}\n").as_bytes());
+    assert!(header_is_good(&header, 2, 3, 64));
+    assert!(!header_is_good(&header, 1, 3, 64));
+}
+
+#[test]
+fn entry_bytes() {
+    let entry = write_entry(12, 3, b"abc");
+    assert_eq!(&entry[..29], b"         12          3   3abc");
+    let sum = checksum(&entry[..29]).to_string();
+    assert_eq!(&entry[29..41], format!("{sum:>11}\n").as_bytes());
+    assert!(entry[41..].iter().all(|&byte| byte == b' '));
+    assert_eq!(judge_entry(&entry, 3), EntryState::Intact(12, b"abc"));
+    assert_eq!(judge_entry(&entry, 4), EntryState::NotIntact);
+}
+
+#[test]
+fn one_or_two_changed_payload_bytes_are_noticed() {
+    let entry = write_entry(1, 1, &[100; 200]);
+    for first in 26..226 {
+        for second in first..226 {
+            // Opposite changes leave the first of the two sums as it was.
+            for change in [1u8, 100, 155] {
+                let mut changed = entry;
+                changed[first] += change;
+                if second > first {
+                    changed[second] = changed[second].wrapping_sub(change);
+                }
+                assert_eq!(judge_entry(&changed, 1), EntryState::NotIntact);
+            }
+        }
+    }
+}
+
+#[test]
+fn strict_columns() {
+    let mut column = [b'x'; 4];
+    write_column(&mut column, 0);
+    assert_eq!(&column, b"   0");
+    write_column(&mut column, 9999);
+    assert_eq!(&column, b"9999");
+    assert_eq!(read_column(b"   0"), Some(0));
+    assert_eq!(read_column(b"  10"), Some(10));
+    for wrong in [
+        b"    ", b"  00", b" 01 ", b"1   ", b" 1 1", b"  +1", b"  -1", b"\t  1", b"   x",
+    ] {
+        assert_eq!(read_column(wrong), None, "{wrong:?}");
+    }
+}
+
+/// Four ways of recovering that the paper rules out by name.
+mod ruled_out {
+    use super::*;
+
+    #[test]
+    fn truncating_at_any_faulty_entry() {
+        let mut cluster = Cluster::fresh(3, 1);
+        for replica in 1..=3 {
+            cluster.put(replica, 1, 1, b"x");
+            spoil(&mut cluster, replica, 1);
+        }
+        assert_eq!(planned(&cluster, 1, 7).0, Ok(Answer::Waiting(1)));
+    }
+
+    #[test]
+    fn counting_away_replicas_as_dont_have() {
+        let mut cluster = Cluster::fresh(3, 1);
+        cluster.put(1, 1, 1, b"x");
+        spoil(&mut cluster, 1, 1);
+        assert_eq!(planned(&cluster, 1, 1).0, Ok(Answer::Waiting(1)));
+        assert_eq!(planned(&cluster, 1, 3).0, Ok(Answer::Waiting(1)));
+        assert_eq!(planned(&cluster, 1, 7).0, Ok(Answer::Ready(0)));
+    }
+
+    #[test]
+    fn matching_by_index_without_epoch() {
+        let mut cluster = Cluster::fresh(3, 1);
+        cluster.put(1, 1, 2, b"x");
+        spoil(&mut cluster, 1, 1);
+        cluster.put(2, 1, 1, b"other");
+        cluster.put(3, 1, 3, b"other");
+        let (answer, bytes, _) = planned(&cluster, 1, 7);
+        assert_eq!((answer, bytes), (Ok(Answer::Ready(0)), vec![4]));
+    }
+
+    #[test]
+    fn a_later_truncation_despite_a_lower_wait() {
+        let mut cluster = Cluster::fresh(3, 3);
+        for replica in 1..=3 {
+            cluster.put(replica, 1, 1, b"x");
+            spoil(&mut cluster, replica, 1);
+        }
+        cluster.put(1, 2, 1, b"y");
+        cluster.put(1, 3, 1, b"z");
+        spoil(&mut cluster, 1, 2);
+        let (answer, bytes, _) = planned(&cluster, 1, 7);
+        assert_eq!((answer, bytes), (Ok(Answer::Waiting(1)), vec![3, 4, 5]));
+        let before = cluster.clone();
+        assert_eq!(
+            step(&mut cluster.bytes, 3, 3, 1, 7),
+            Ok(StepAnswer::Waiting(1))
+        );
+        assert_eq!(cluster, before);
+    }
+}

@@ -1,0 +1,198 @@
+//! What recovery supposes is needed: without each supposition some conclusion fails.
+//!
+//! These clusters also show that the checks notice harm when there is some.
+
+use harness::generate::{Case, Cluster, Committed};
+use harness::model::{apply, next_store, write_entry, Next, StoreKind};
+use harness::property::claims::Start;
+use harness::property::walk::walk;
+use harness::property::Coverage;
+
+/// Three replicas of one slot: all present, replica 1 leads, epoch 1 committed "kept".
+fn case(cluster: &Cluster) -> Case {
+    Case {
+        n: 3,
+        m: 1,
+        leader: 1,
+        present: 7,
+        cluster: cluster.bytes.clone(),
+    }
+}
+
+fn committed(holders: u32) -> [Committed; 1] {
+    [Committed {
+        slot: 1,
+        epoch: 1,
+        payload: b"kept".to_vec(),
+        holders,
+    }]
+}
+
+/// The first conclusion that fails, if any does.
+fn harm(cluster: &Cluster, holders: u32) -> Option<String> {
+    let case = case(cluster);
+    let committed = committed(holders);
+    let start = Start::new(&case, &committed);
+    let mut coverage = Coverage::default();
+    start
+        .check_first(&mut coverage)
+        .and_then(|()| walk(&start, &mut coverage))
+        .err()
+}
+
+/// The leader's copy is faulty, replica 2 has it, replica 3 lags: nothing is harmed.
+fn leader_faulty() -> Cluster {
+    let mut cluster = Cluster::fresh(3, 1);
+    cluster.put(1, 1, 1, b"kept");
+    cluster.put(2, 1, 1, b"kept");
+    cluster.entry_mut(1, 1).fill(b'#');
+    cluster
+}
+
+#[test]
+fn with_all_suppositions_nothing_is_harmed() {
+    assert_eq!(harm(&leader_faulty(), 0b011), None);
+}
+
+#[test]
+fn a_damaged_entry_is_not_intact_under_its_records_epoch() {
+    let mut cluster = leader_faulty();
+    cluster.put_entry(2, 1, 1, b"other");
+    assert!(harm(&cluster, 0b011).is_some());
+}
+
+#[test]
+fn record_and_entry_of_one_slot_are_not_both_damaged() {
+    let mut cluster = leader_faulty();
+    cluster.record_mut(2, 1).fill(b'#');
+    cluster.put_entry(2, 1, 2, b"stale");
+    assert!(harm(&cluster, 0b011).is_some());
+}
+
+#[test]
+fn a_damaged_record_is_not_blank() {
+    let mut cluster = leader_faulty();
+    let blank = harness::model::BLANK_RECORD;
+    cluster.record_mut(2, 1).copy_from_slice(&blank);
+    assert!(harm(&cluster, 0b011).is_some());
+}
+
+#[test]
+fn a_damaged_record_is_not_good() {
+    let mut cluster = leader_faulty();
+    cluster.put_record(2, 1, 2);
+    assert!(harm(&cluster, 0b011).is_some());
+}
+
+#[test]
+fn only_records_of_used_slots_are_damaged() {
+    let mut cluster = leader_faulty();
+    cluster.put_entry(3, 1, 1, b"left behind");
+    assert_eq!(harm(&cluster, 0b011), None);
+    cluster.record_mut(3, 1).fill(b'#');
+    assert!(harm(&cluster, 0b011).is_some());
+}
+
+#[test]
+fn logs_agreed() {
+    let mut cluster = leader_faulty();
+    cluster.put(3, 1, 1, b"another log");
+    assert!(harm(&cluster, 0b011).is_some());
+}
+
+#[test]
+fn the_leaders_log_held_it() {
+    let mut cluster = Cluster::fresh(3, 1);
+    cluster.put(2, 1, 1, b"kept");
+    cluster.put(3, 1, 1, b"kept");
+    assert!(harm(&cluster, 0b110).is_some());
+}
+
+#[test]
+fn a_majority_stored_it() {
+    let mut cluster = leader_faulty();
+    cluster.entry_mut(2, 1).fill(b'#');
+    // Waiting harms nothing, but without the majority the payload is truncated.
+    assert_eq!(harm(&cluster, 0b011), None);
+    let alone = {
+        let mut cluster = Cluster::fresh(3, 1);
+        cluster.put(1, 1, 1, b"kept");
+        cluster.entry_mut(1, 1).fill(b'#');
+        cluster
+    };
+    assert!(harm(&alone, 0b001).is_some());
+}
+
+#[test]
+fn a_torn_entry_is_not_intact_under_the_epoch() {
+    let cluster = leader_faulty();
+    let case = case(&cluster);
+    let committed = committed(0b011);
+    let start = Start::new(&case, &committed);
+    let mut torn = cluster.clone();
+    torn.entry_mut(1, 1)
+        .copy_from_slice(&write_entry(1, 1, b"torn"));
+    assert!(start
+        .check_state(&torn.bytes, &mut Coverage::default())
+        .is_err());
+}
+
+#[test]
+fn a_record_store_is_all_or_nothing() {
+    // Replica 3 has a slot of another epoch, whose record is blanked.
+    let mut cluster = leader_faulty();
+    cluster.put(3, 1, 2, b"other");
+    cluster.entry_mut(3, 1).fill(b'#');
+    assert_eq!(harm(&cluster, 0b011), None);
+    let case = case(&cluster);
+    let committed = committed(0b011);
+    let start = Start::new(&case, &committed);
+    let mut now = cluster.bytes.clone();
+    loop {
+        let Ok(Next::Store(store)) = next_store(&now, 3, 1, 1, 7) else {
+            panic!("no record was blanked");
+        };
+        if store.kind == StoreKind::Blank {
+            // Only the epoch's last digit has been blanked so far.
+            now[store.offset + 10] = b' ';
+            break;
+        }
+        apply(&mut now, &store);
+    }
+    assert!(start.check_state(&now, &mut Coverage::default()).is_err());
+}
+
+/// A caller that takes no new epoch after a truncation leaves what is supposed here.
+#[test]
+fn an_epoch_is_not_used_again_after_a_truncation() {
+    let mut cluster = Cluster::fresh(3, 1);
+    // An older payload of epoch 1 was truncated and stayed behind on replica 2.
+    cluster.put_entry(2, 1, 1, b"truncated");
+    // The next one reaches replicas 1 and 3; on replica 2 only its record arrives.
+    cluster.put(1, 1, 1, b"kept");
+    cluster.put(3, 1, 1, b"kept");
+    cluster.put_record(2, 1, 1);
+    cluster.entry_mut(1, 1).fill(b'#');
+    assert!(harm(&cluster, 0b111).is_some());
+    // Under a new epoch the entry left behind is not taken for it.
+    let mut cluster = Cluster::fresh(3, 1);
+    cluster.put_entry(2, 1, 2, b"truncated");
+    cluster.put(1, 1, 1, b"kept");
+    cluster.put(3, 1, 1, b"kept");
+    cluster.put_record(2, 1, 1);
+    cluster.entry_mut(1, 1).fill(b'#');
+    assert_eq!(harm(&cluster, 0b111), None);
+}
+
+#[test]
+fn only_recovery_changes_the_cluster_once_it_has_begun() {
+    let cluster = leader_faulty();
+    let case = case(&cluster);
+    let committed = committed(0b011);
+    let start = Start::new(&case, &committed);
+    let mut damaged = cluster.clone();
+    damaged.entry_mut(2, 1).fill(b'#');
+    assert!(start
+        .check_state(&damaged.bytes, &mut Coverage::default())
+        .is_err());
+}
