@@ -4,4 +4,5 @@ pub mod PartLaws
 pub mod SpliceLaws
 pub mod NestedLaws
 pub mod AllBytesLaws
+pub mod DifferingLaws
 pub mod LoopLaws

@@ -1,52 +1,52 @@
 -- One step, and the end, of each loop of this crate.
 use Prim.Native.Nat.{ℕ, suc, _+_, _-_, _<_, _≤_}
 use mathlib.Core.Path.{_≡_, refl, sym, _∙_}
-use mathlib.Core.Bool.{true, false}
+use mathlib.Core.Bool.{_&&_}
+use lib.Dec.{eqb}
+use lib.Bits.{bitOr, bitXor}
 use mathlib.Core.List.{_++_, append-nil}
 use native.Mathlib.Omega.{arith}
 use native.Mathlib.Numerals.{add-one}
 use lib.ListN.{length, take, drop, getD, set, replicate, drop-of-length-le}
 use lib.Seq.{take-suc, take-suc-set, take-all, drop-cons}
-use borrow.Author.Tests.{eq-eqb, ne-eqb}
 use Rattle.slices.specs.Parts.{Bytes}
 use Rattle.slices.specs.Same.{same}
+use Rattle.slices.proofs.SameLaws.{and-assoc, and-unit}
+use Rattle.slices.proofs.DifferingLaws.{differing-step}
 
--- ---- compared from the front
+-- ---- compared to the end
 
-module _ (xs ys : Bytes) (i : ℕ) (h : i < length xs) (k : i < length ys) where
-  pub same-step : getD xs i 0 ≡ getD ys i 0 → same (drop i xs) (drop i ys) ≡ same (drop (i + 1) xs) (drop (i + 1) ys)
+-- one more byte compared
+module _ (d : ℕ) (xs ys : Bytes) (i : ℕ) (h : i < length xs) (k : i < length ys) where
+  pub same-step :
+      (eqb d 0 && same (drop i xs) (drop i ys))
+      ≡ (eqb (bitOr d (bitXor (getD xs i 0) (getD ys i 0))) 0 && same (drop (i + 1) xs) (drop (i + 1) ys))
   unfolding same
-  same-step e = rw (add-one, drop-cons xs i 0, drop-cons ys i 0) (rw (eq-eqb _ _ e) refl)
+  same-step =
+      rw (add-one, drop-cons xs i 0, drop-cons ys i 0, differing-step d (getD xs i 0) (getD ys i 0)) (sym (and-assoc (eqb d 0) _ _))
 
-  pub same-off : (getD xs i 0 ≡ getD ys i 0 → ⊥) → same (drop i xs) (drop i ys) ≡ false
-  unfolding same
-  same-off e = rw (drop-cons xs i 0, drop-cons ys i 0) (rw (ne-eqb _ _ e) refl)
-
-pub same-end : (xs ys : Bytes) (i : ℕ) → length xs ≤ i → length ys ≤ i → same (drop i xs) (drop i ys) ≡ true
+pub same-end : (d : ℕ) (xs ys : Bytes) (i : ℕ) → length xs ≤ i → length ys ≤ i → (eqb d 0 && same (drop i xs) (drop i ys)) ≡ eqb d 0
 unfolding same
-same-end xs ys i h k = rw (drop-of-length-le xs h, drop-of-length-le ys k) refl
+same-end d xs ys i h k = rw (drop-of-length-le xs h, drop-of-length-le ys k) (and-unit (eqb d 0))
 
 -- ---- compared with one byte
 
 pub all-start : (xs : Bytes) (v : ℕ) → same (drop 0 xs) (replicate (length xs - 0) v) ≡ same xs (replicate (length xs) v)
 all-start xs v = let n : length xs - 0 ≡ length xs = omega arith in rw n
 
-module _ (xs : Bytes) (v i : ℕ) (h : i < length xs) where
-  pub all-step : getD xs i 0 ≡ v → same (drop i xs) (replicate (length xs - i) v) ≡ same (drop (i + 1) xs) (replicate (length xs - (i + 1)) v)
-  unfolding same
-  all-step e =
-      let n : length xs - i ≡ suc (length xs - (i + 1)) = omega arith in
-      rw (n, add-one, drop-cons xs i 0) (rw (eq-eqb _ _ e) refl)
-
-  pub all-off : (getD xs i 0 ≡ v → ⊥) → same (drop i xs) (replicate (length xs - i) v) ≡ false
-  unfolding same
-  all-off e =
-      let n : length xs - i ≡ suc (length xs - (i + 1)) = omega arith in
-      rw (n, drop-cons xs i 0) (rw (ne-eqb _ _ e) refl)
-
-pub all-end : (xs : Bytes) (v i : ℕ) → length xs ≤ i → same (drop i xs) (replicate (length xs - i) v) ≡ true
+pub all-step :
+    (d : ℕ) (xs : Bytes) (v i : ℕ) →
+    i < length xs →
+    (eqb d 0 && same (drop i xs) (replicate (length xs - i) v))
+    ≡ (eqb (bitOr d (bitXor (getD xs i 0) v)) 0 && same (drop (i + 1) xs) (replicate (length xs - (i + 1)) v))
 unfolding same
-all-end xs v i h = let n : length xs - i ≡ 0 = omega arith in rw (n, drop-of-length-le xs h) refl
+all-step d xs v i h =
+    let n : length xs - i ≡ suc (length xs - (i + 1)) = omega arith in
+    rw (n, add-one, drop-cons xs i 0, differing-step d (getD xs i 0) v) (sym (and-assoc (eqb d 0) _ _))
+
+pub all-end : (d : ℕ) (xs : Bytes) (v i : ℕ) → length xs ≤ i → (eqb d 0 && same (drop i xs) (replicate (length xs - i) v)) ≡ eqb d 0
+unfolding same
+all-end d xs v i h = let n : length xs - i ≡ 0 = omega arith in rw (n, drop-of-length-le xs h) (and-unit (eqb d 0))
 
 -- ---- filled and copied from the front
 

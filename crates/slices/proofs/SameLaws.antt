@@ -27,6 +27,10 @@ pub and-off : (x : Bool) → x && false ≡ false
 and-off true = refl
 and-off false = refl
 
+pub and-unit : (x : Bool) → (x && true) ≡ x
+and-unit true = refl
+and-unit false = refl
+
 pub and-assoc : (x y z : Bool) → (x && y) && z ≡ x && (y && z)
 and-assoc true y z = refl
 and-assoc false y z = refl

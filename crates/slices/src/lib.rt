@@ -1,39 +1,35 @@
 // Byte slices compared, copied and filled.
-ghost use Prim.Native.Nat.{_+_, _≤_};
 ghost use mathlib.Core.Path.{_≡_};
 ghost use lib.ListN.{length, replicate};
-ghost use Rattle.slices.specs.Parts.{part, spliced};
 ghost use Rattle.slices.specs.Same.{same};
 
-// Whether two slices hold the same bytes.
+// Whether two slices hold the same bytes. The loop goes to the end in any case, so that it compiles to wide steps.
 pub fn same_bytes(a: &[u8], b: &[u8]) -> bool
     ensures { λ r. ⌜ r ≡ same (now (a .entry)) (now (b .entry)) ⌝ }
 {
     if a.len() != b.len() {
         return false;
     }
+    let mut differing: u8 = 0;
     let mut i: usize = 0;
     while i < a.len() {
-        if a[i] != b[i] {
-            return false;
-        }
+        differing = differing | (a[i] ^ b[i]);
         i += 1;
     }
-    true
+    differing == 0
 }
 
-// Whether every byte is v.
+// Whether every byte is v. To the end in any case, as above.
 pub fn all_bytes(s: &[u8], v: u8) -> bool
     ensures { λ r. ⌜ r ≡ same (now (s .entry)) (replicate (length (now (s .entry))) v) ⌝ }
 {
+    let mut other: u8 = 0;
     let mut i: usize = 0;
     while i < s.len() {
-        if s[i] != v {
-            return false;
-        }
+        other = other | (s[i] ^ v);
         i += 1;
     }
-    true
+    other == 0
 }
 
 // Makes every byte v.
@@ -71,15 +67,4 @@ pub fn load_part(s: &[u8]) -> [u8; 240]
         i += 1;
     }
     c
-}
-
-// Copies the 240 bytes at `from` over those at `to`. By way of a copy, so the two may meet.
-pub fn copy_part(buf: &mut [u8], from: usize, to: usize)
-    requires { ⌜ (from + 240 ≤ length (now buf)) × (to + 240 ≤ length (now buf)) ⌝ }
-    ensures { λ _. ⌜ now (buf .exit) ≡ spliced (now (buf .entry)) to (part (now (buf .entry)) from 240) ⌝ }
-{
-    let from_end = from + 240;
-    let c = load_part(&buf[from..from_end]);
-    let to_end = to + 240;
-    copy_bytes(&mut buf[to..to_end], &c);
 }
