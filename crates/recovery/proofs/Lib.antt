@@ -7,3 +7,4 @@ pub mod FollowerLaws
 pub mod OutlookLaws
 pub mod OutcomeLaws
 pub mod Underway
+pub mod PlanCallLaws

@@ -1,12 +1,14 @@
--- The answers of step and run in document 01's numbers, and what stands of a recovery before a call goes on.
+-- The answers of planner, step and run in document 01's numbers, and what stands of a recovery before a call goes on.
 use Prim.Native.Nat.{ℕ, pred, _≤_}
 use mathlib.Core.Path.{_≡_}
 use Rattle.slices.specs.Parts.{Bytes}
 use Rattle.planner.specs.Rules.{Waiting, Ready, answer, end}
 use Rattle.planner.specs.Plan.{viewsIn}
+use Rattle.planner.specs.declared.PlanAnswer.{PlanAnswer}
+use Rattle.planner.specs.declared.PlanAnswer.the-variants as plan
 use Rattle.protocol.specs.StepBytes.{nextIn}
 use Rattle.protocol.specs.Call.{Numbers, named, refusalIn}
-use Rattle.protocol.specs.CallResult.{Result, refused, waiting, stored, recovered, spent}
+use Rattle.protocol.specs.CallResult.{Result, refused, waiting, ready, stored, recovered, spent}
 use Rattle.recovery.specs.NextStore.{storeOf}
 use Rattle.recovery.specs.declared.StepAnswer.{StepAnswer}
 use Rattle.recovery.specs.declared.StepAnswer.the-variants as step
@@ -17,6 +19,12 @@ use Rattle.recovery.specs.declared.Outlook.the-variants as outlook
 
 abbrev pub numbers : ℕ → ℕ → ℕ → ℕ → Numbers
 numbers n m leader present = record { n = n; m = m; leader = leader; present = present }
+
+-- the final length; the lowest waiting slot; the refusal
+abbrev pub planAnswerResult : PlanAnswer → Result
+planAnswerResult (plan.Ready l) = ready l
+planAnswerResult (plan.Waiting k) = waiting k
+planAnswerResult (plan.Refused r) = refused r
 
 -- a store's replica, slot and kind; 01's settled; the lowest waiting slot; the refusal
 abbrev pub stepAnswerResult : StepAnswer → Result

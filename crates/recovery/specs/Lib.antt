@@ -2,3 +2,4 @@
 pub mod NextStore
 pub mod Look
 pub mod Answers
+pub mod PlanCall

@@ -1,4 +1,6 @@
 // Recovery: the first store still outstanding, steps and runs.
+ghost use Rattle.recovery.specs.PlanCall.{PlanCall};
+
 pub mod store; // store.rt: a store made on the cluster's bytes
 pub mod next; // next.rt: the first store still outstanding, of what is seen of the replicas
 pub mod step; // step.rt: one step
@@ -38,3 +40,8 @@ pub enum RunAnswer {
     Waiting(usize),
     Refused(u8),
 }
+
+// The planner's answer is that of a plan call of demand 3. The function does nothing; its contract is the theorem.
+pub fn plan_call_claim()
+    ensures { λ _. ⌜ PlanCall ⌝ }
+{}

@@ -1,0 +1,37 @@
+-- The planner's answer, by whether it is refused, is the result of a plan call.
+use Prim.Native.Nat.{ℕ, zero, suc}
+use mathlib.Core.Path.{_≡_, refl, ap}
+use mathlib.Core.Bool.{Bool, true, false, cond}
+use lib.Dec.{eqb}
+use Rattle.slices.specs.Parts.{Bytes}
+use Rattle.planner.specs.Rules.{Answer, Refused, Waiting, Ready, answer}
+use Rattle.planner.specs.Plan.{viewsIn, planRefusal}
+use Rattle.planner.specs.Answers.{answered, planAnswer}
+use Rattle.planner.specs.declared.PlanAnswer.the-variants as plan-answer
+use Rattle.protocol.specs.StepBytes.{stepsBytes}
+use Rattle.protocol.specs.Call.{plan, Numbers, named, budgetOf, refusalOf}
+use Rattle.protocol.specs.CallResult.{Result, refused, readyResult, acceptedResult, callResult, callBytes}
+use Rattle.recovery.specs.Answers.{planAnswerResult}
+
+answered-result : (a : Answer) → planAnswerResult (answered a) ≡ readyResult a
+unfolding answered readyResult
+answered-result Refused = refl
+answered-result (Waiting k) = refl
+answered-result (Ready l) = refl
+
+either : (t : Bool) (a : Answer) (r : ℕ) → planAnswerResult (cond t (answered a) (plan-answer.Refused r)) ≡ cond t (readyResult a) (refused r)
+either true a r = answered-result a
+either false a r = refl
+
+module _ (N : Numbers) (b : Bytes) (bytes rows : ℕ) where
+  pub plan-result : planAnswerResult (planAnswer (planRefusal (N .n) (N .m) (N .leader) (N .present) b bytes rows) (answer (named N) (viewsIn (named N) b))) ≡ callResult N (plan bytes rows) b
+  unfolding planAnswer callResult acceptedResult refusalOf
+  plan-result = either (eqb (refusalOf N (plan bytes rows) b) 0) (answer (named N) (viewsIn (named N) b)) (refusalOf N (plan bytes rows) b)
+
+  pub plan-kept : callBytes N (plan bytes rows) b ≡ b
+  unfolding callBytes stepsBytes budgetOf
+  plan-kept = same (eqb (refusalOf N (plan bytes rows) b) 0)
+    where
+      same : (t : Bool) → cond t b b ≡ b
+      same true = refl
+      same false = refl
