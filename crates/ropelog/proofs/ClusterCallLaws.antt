@@ -2,6 +2,7 @@
 use Prim.Native.Nat.{ℕ, pred}
 use mathlib.Core.Path.{_≡_, refl, sym, ap, _∙_}
 use mathlib.Core.Bool.{Bool, true, false, cond}
+use mathlib.Core.List.{List}
 use native.Mathlib.Omega.{arith}
 use lib.Dec.{eqb, ltb}
 use borrow.Author.Tests.{eqb-true, not-false}
@@ -12,16 +13,17 @@ use Rattle.image.proofs.RefusalLaws.{refuse-zero, else-zero-l, else-zero-r}
 use Rattle.planner.specs.Setting.{Setting, settingOf}
 use Rattle.planner.specs.Rules.{Answer, Refused, Waiting, Ready, answer, end, firstWaiting}
 use Rattle.planner.specs.Plan.{viewsIn, clusterRefusal, planRefusal}
-use Rattle.planner.specs.Answers.{answered, planAnswer}
-use Rattle.planner.specs.Answers.{unlessRefused as unless}
-use Rattle.planner.specs.declared.PlanAnswer.the-variants as plan
-use Rattle.protocol.specs.CallResult.{Result}
-use Rattle.recovery.specs.Answers.{stepAnswerResult, runAnswerResult}
+use Rattle.planner.specs.Answers.{answered, planAnswer, unlessRefused}
+use Rattle.planner.specs.declared.ReplicaRow.{ReplicaRow}
+use Rattle.planner.specs.declared.PlanAnswer.{PlanAnswer}
+use Rattle.planner.specs.declared.PlanAnswer.the-variants as plan-answer
+use Rattle.protocol.specs.Call.{plan}
+use Rattle.protocol.specs.CallResult.{Result, callResult}
+use Rattle.recovery.specs.Answers.{numbers, planAnswerResult, stepAnswerResult, runAnswerResult}
 use Rattle.recovery.specs.declared.StepAnswer.{StepAnswer}
 use Rattle.recovery.specs.declared.RunAnswer.{RunAnswer}
-use Rattle.ropelog.specs.Pieces.{unlessRefused}
-use Rattle.ropelog.specs.Images.{handedOut}
-use Rattle.ropelog.specs.Clusters.{planStatus, planNumber, resultRefusal, resultStatus, resultReplica, resultSlot, resultKind, resultStores}
+use Rattle.recovery.proofs.PlanCallLaws.{plan-result}
+use Rattle.ropelog.specs.Clusters.{resultRefusal, resultStatus, resultNumber, resultReplica, resultSlot, resultKind, resultStores}
 
 answer-known : (S : Setting) (W : ℕ → View) → W (S .leader) .readable ≡ true → answer S W ≡ Refused → ⊥
 unfolding answer
@@ -46,58 +48,45 @@ not-refused n m leader present b bytes rows e =
 
 -- ---- planning
 
-module _ (refusal : ℕ) (a : Answer) (known : refusal ≡ 0 → a ≡ Refused → ⊥) (after new old : Bytes) (filled : after ≡ unless refusal new old) (status number : ℕ) where
-  pub plan-ready :
-      (l : ℕ) →
-      plan.Ready l ≡ planAnswer refusal a →
-      (0 ≡ refusal) × (after ≡ unlessRefused 0 new old) × (0 ≡ handedOut 0 (planStatus a) status) × (l ≡ handedOut 0 (planNumber a) number)
-  unfolding planAnswer answered unless unlessRefused handedOut planStatus planNumber
-  plan-ready l = go (eqb refusal 0) a refl
-    where
-      go :
-          (t : Bool) (x : Answer) →
-          eqb refusal 0 ≡ t →
-          plan.Ready l ≡ cond t (answered x) (plan.Refused refusal) →
-          (0 ≡ refusal) × (after ≡ new) × (0 ≡ planStatus x) × (l ≡ planNumber x)
-      go true Refused q h = absurd (let z : _≡_ {A = ℕ} 0 1 = cc in omega (arith, z))
-      go true (Waiting k) q h = absurd (let z : _≡_ {A = ℕ} 0 1 = cc in omega (arith, z))
-      go true (Ready k) q h = (sym (eqb-true _ _ q), filled ∙ rw q, refl, cc)
-      go false x q h = absurd (let z : _≡_ {A = ℕ} 0 1 = cc in omega (arith, z))
+module _ (n m leader present : ℕ) (b : Bytes) (bytes rows : ℕ) where
+  abbrev R : ℕ
+  R = planRefusal n m leader present b bytes rows
 
-  pub plan-waiting :
-      (k : ℕ) →
-      plan.Waiting k ≡ planAnswer refusal a →
-      (0 ≡ refusal) × (after ≡ unlessRefused 0 new old) × (1 ≡ handedOut 0 (planStatus a) status) × (k ≡ handedOut 0 (planNumber a) number)
-  unfolding planAnswer answered unless unlessRefused handedOut planStatus planNumber
-  plan-waiting k = go (eqb refusal 0) a refl
-    where
-      go :
-          (t : Bool) (x : Answer) →
-          eqb refusal 0 ≡ t →
-          plan.Waiting k ≡ cond t (answered x) (plan.Refused refusal) →
-          (0 ≡ refusal) × (after ≡ new) × (1 ≡ planStatus x) × (k ≡ planNumber x)
-      go true Refused q h = absurd (let z : _≡_ {A = ℕ} 0 1 = cc in omega (arith, z))
-      go true (Ready l) q h = absurd (let z : _≡_ {A = ℕ} 0 1 = cc in omega (arith, z))
-      go true (Waiting l) q h = (sym (eqb-true _ _ q), filled ∙ rw q, refl, cc)
-      go false x q h = absurd (let z : _≡_ {A = ℕ} 0 1 = cc in omega (arith, z))
+  abbrev planned : Answer
+  planned = answer (settingOf n m leader present) (viewsIn (settingOf n m leader present) b)
 
-  pub plan-refused :
-      (x : ℕ) →
-      plan.Refused x ≡ planAnswer refusal a →
-      (x ≡ refusal) × (after ≡ unlessRefused x new old) × (status ≡ handedOut x (planStatus a) status) × (number ≡ handedOut x (planNumber a) number)
-  unfolding planAnswer answered unless unlessRefused handedOut
-  plan-refused x = go (eqb refusal 0) a refl refl
+  abbrev result : Result
+  result = callResult (numbers n m leader present) (plan bytes rows) b
+
+  answered-refusal : resultRefusal (planAnswerResult (planAnswer R planned)) ≡ R
+  unfolding planAnswer answered
+  answered-refusal = go (eqb R 0) planned refl (not-refused n m leader present b bytes rows)
     where
-      go :
-          (t : Bool) (y : Answer) →
-          eqb refusal 0 ≡ t →
-          a ≡ y →
-          plan.Refused x ≡ cond t (answered y) (plan.Refused refusal) →
-          (x ≡ refusal) × (after ≡ cond (eqb x 0) new old) × (status ≡ cond (eqb x 0) (planStatus a) status) × (number ≡ cond (eqb x 0) (planNumber a) number)
-      go true Refused q p h = absurd (known (eqb-true _ _ q) p)
-      go true (Waiting k) q p h = absurd (let z : _≡_ {A = ℕ} 0 1 = cc in omega (arith, z))
-      go true (Ready l) q p h = absurd (let z : _≡_ {A = ℕ} 0 1 = cc in omega (arith, z))
-      go false y q p h = let same : x ≡ refusal = cc in (same, filled ∙ rw same, rw (same, q), rw (same, q))
+      go : (t : Bool) (x : Answer) → eqb R 0 ≡ t → (R ≡ 0 → x ≡ Refused → ⊥) → resultRefusal (planAnswerResult (cond t (answered x) (plan-answer.Refused R))) ≡ R
+      go true Refused q known = absurd (known (eqb-true _ _ q) refl)
+      go true (Waiting k) q known = sym (eqb-true _ _ q)
+      go true (Ready l) q known = sym (eqb-true _ _ q)
+      go false x q known = refl
+
+  -- by what the planner leaves and what is handed out of its answer
+  pub plan-answered :
+      (new old : Bytes) (filled lent : List ReplicaRow) (status number : ℕ) {r : ℕ} {a : PlanAnswer} {after : Bytes} {table : List ReplicaRow} {last-status last-number : ℕ} →
+      (a ≡ planAnswer R planned) × (after ≡ unlessRefused R new old) × (table ≡ unlessRefused R filled lent) →
+      (r ≡ resultRefusal (planAnswerResult a)) × (last-status ≡ resultStatus (planAnswerResult a) status) × (last-number ≡ resultNumber (planAnswerResult a) number) →
+      (r ≡ resultRefusal result)
+      × (after ≡ unlessRefused r new old)
+      × (table ≡ unlessRefused r filled lent)
+      × (last-status ≡ resultStatus result status)
+      × (last-number ≡ resultNumber result number)
+  plan-answered new old filled lent status number {r = r} {a = a} left out =
+      let q : planAnswerResult a ≡ result = ap planAnswerResult (left .0) ∙ plan-result (numbers n m leader present) b bytes rows in
+      let same : r ≡ R = out .0 ∙ ap (λ (z : PlanAnswer). resultRefusal (planAnswerResult z)) (left .0) ∙ answered-refusal in (
+        out .0 ∙ ap resultRefusal q,
+        left .1 ∙ ap (λ (z : ℕ). unlessRefused z new old) (sym same),
+        left .2 ∙ ap (λ (z : ℕ). unlessRefused z filled lent) (sym same),
+        out .1 ∙ ap (λ (z : Result). resultStatus z status) q,
+        out .2 ∙ ap (λ (z : Result). resultNumber z number) q,
+      )
 
 -- ---- step and run
 

@@ -1,21 +1,8 @@
 -- What the calls about a cluster hand out.
-use Prim.Native.Nat.{ℕ, suc}
-use Rattle.planner.specs.Rules.{Answer, Refused, Waiting, Ready}
+use Prim.Native.Nat.{ℕ}
 use Rattle.protocol.specs.CallResult.{Result, refused, waiting, ready, stored, recovered, spent}
 
--- 0 ready, 1 waiting; a refused call hands nothing out
-unfoldable pub planStatus : Answer → ℕ
-planStatus Refused = 0
-planStatus (Waiting k) = 1
-planStatus (Ready l) = 0
-
--- the final length, or the lowest waiting slot's number, from 1
-unfoldable pub planNumber : Answer → ℕ
-planNumber Refused = 0
-planNumber (Waiting k) = suc k
-planNumber (Ready l) = l
-
--- the refusal in what a step or run answers; 0 if it is none
+-- the refusal in what a call answers; 0 if it is none
 abbrev pub resultRefusal : Result → ℕ
 resultRefusal (refused r) = r
 resultRefusal (waiting k) = 0
@@ -24,7 +11,7 @@ resultRefusal (stored c k kind) = 0
 resultRefusal (recovered count) = 0
 resultRefusal (spent count) = 0
 
--- 0 no store is outstanding, 1 waiting, 2 one is made (a step) or is still outstanding (a run)
+-- planning: 0 ready, 1 waiting. Step and run: 0 no store is outstanding, 1 waiting, 2 one is made (a step) or is still outstanding (a run)
 abbrev pub resultStatus : Result → ℕ → ℕ
 resultStatus (refused r) old = old
 resultStatus (waiting k) old = 1
@@ -32,6 +19,15 @@ resultStatus (ready l) old = 0
 resultStatus (stored c k kind) old = 2
 resultStatus (recovered count) old = 0
 resultStatus (spent count) old = 2
+
+-- planning: the final length, or the lowest waiting slot's number; elsewhere what was there
+abbrev pub resultNumber : Result → ℕ → ℕ
+resultNumber (refused r) old = old
+resultNumber (waiting k) old = k
+resultNumber (ready l) old = l
+resultNumber (stored c k kind) old = old
+resultNumber (recovered count) old = old
+resultNumber (spent count) old = old
 
 -- a store's replica, slot and kind, and the waiting slot, by their numbers; elsewhere what was there
 abbrev pub resultReplica : Result → ℕ → ℕ

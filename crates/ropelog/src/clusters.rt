@@ -2,47 +2,60 @@
 ghost use mathlib.Core.Path.{_≡_};
 ghost use lib.ListN.{length};
 ghost use Rattle.planner.specs.Setting.{settingOf};
-ghost use Rattle.planner.specs.Rules.{answer};
-ghost use Rattle.planner.specs.Plan.{viewsIn, planRefusal, planBytes};
-ghost use Rattle.protocol.specs.Call.{step, run};
+ghost use Rattle.planner.specs.Plan.{viewsIn, planBytes};
+ghost use Rattle.planner.specs.Answers.{unlessRefused, rowsOf};
+ghost use Rattle.protocol.specs.Call.{plan as planCall, step, run};
 ghost use Rattle.protocol.specs.CallResult.{callResult, callBytes};
-ghost use Rattle.recovery.specs.Answers.{numbers};
-ghost use Rattle.ropelog.specs.Pieces.{unlessRefused};
-ghost use Rattle.ropelog.specs.Images.{handedOut};
-ghost use Rattle.ropelog.specs.Clusters.{planStatus, planNumber, resultRefusal, resultStatus, resultReplica, resultSlot, resultKind, resultStores};
+ghost use Rattle.recovery.specs.Answers.{numbers, planAnswerResult};
+ghost use Rattle.ropelog.specs.Clusters.{resultRefusal, resultStatus, resultNumber, resultReplica, resultSlot, resultKind, resultStores};
+use planner::PlanAnswer;
+use planner::ReplicaRow;
 
-// Plans: fills the plan's bytes, and hands out 0 and the final length, or 1 and the lowest waiting slot.
+// Hands out a plan's answer: 0 and the final length, or 1 and the lowest waiting slot; or answers the refusal.
+fn hand_out(answer: PlanAnswer, status: &mut u8, number: &mut usize) -> u8
+    ensures { λ r. ⌜ (r ≡ resultRefusal (planAnswerResult answer))
+        × (now (status .exit) ≡ resultStatus (planAnswerResult answer) (now (status .entry)))
+        × (now (number .exit) ≡ resultNumber (planAnswerResult answer) (now (number .entry))) ⌝ }
+{
+    match answer {
+        PlanAnswer::Ready(length) => {
+            *status = 0;
+            *number = length;
+            0
+        }
+        PlanAnswer::Waiting(slot) => {
+            *status = 1;
+            *number = slot;
+            0
+        }
+        PlanAnswer::Refused(refusal) => refusal,
+    }
+}
+
+// Plans: fills the plan of m bytes and the table of n rows, and hands out 0 and the final length, or 1 and the lowest waiting slot.
 #[no_mangle]
-pub extern "C" fn rope_plan_bytes(
+pub extern "C" fn rope_plan(
     cluster: &[u8],
     n: usize,
     m: usize,
     leader: usize,
     present: u32,
     plan: &mut [u8],
+    rows: &mut [ReplicaRow],
     status: &mut u8,
     number: &mut usize,
 ) -> u8
-    ensures { λ r. ⌜ (r ≡ planRefusal n m leader present (now (cluster .entry)) (length (now (plan .entry))) n)
+    ensures { λ r. ⌜ (r ≡ resultRefusal (callResult (numbers n m leader present) (planCall (length (now (plan .entry))) (length (now (rows .entry)))) (now (cluster .entry))))
         × (now (plan .exit) ≡ unlessRefused r (planBytes (settingOf n m leader present) (viewsIn (settingOf n m leader present) (now (cluster .entry)))) (now (plan .entry)))
-        × (now (status .exit) ≡ handedOut r (planStatus (answer (settingOf n m leader present) (viewsIn (settingOf n m leader present) (now (cluster .entry))))) (now (status .entry)))
-        × (now (number .exit) ≡ handedOut r (planNumber (answer (settingOf n m leader present) (viewsIn (settingOf n m leader present) (now (cluster .entry))))) (now (number .entry))) ⌝ }
+        × (now (rows .exit) ≡ unlessRefused r (rowsOf (settingOf n m leader present) (viewsIn (settingOf n m leader present) (now (cluster .entry)))) (now (rows .entry)))
+        × (now (status .exit) ≡ resultStatus (callResult (numbers n m leader present) (planCall (length (now (plan .entry))) (length (now (rows .entry)))) (now (cluster .entry))) (now (status .entry)))
+        × (now (number .exit) ≡ resultNumber (callResult (numbers n m leader present) (planCall (length (now (plan .entry))) (length (now (rows .entry)))) (now (cluster .entry))) (now (number .entry))) ⌝ }
 {
-    let outcome = planner::plan::plan_bytes(plan, cluster, n, m, leader, present, n);
-    let answer = outcome.answer;
-    match answer {
-        planner::PlanAnswer::Ready(length) => {
-            *status = 0;
-            *number = length;
-            0
-        }
-        planner::PlanAnswer::Waiting(slot) => {
-            *status = 1;
-            *number = slot;
-            0
-        }
-        planner::PlanAnswer::Refused(refusal) => refusal,
-    }
+    hand_out(
+        planner::plan::plan_cluster(cluster, n, m, leader, present, plan, rows),
+        status,
+        number,
+    )
 }
 
 // Makes the first store still outstanding. Hands out 0 if there is none; 1 and the lowest waiting slot; or 2 and the store's replica,
