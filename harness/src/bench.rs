@@ -121,22 +121,24 @@ fn full_cluster(n: usize, m: usize, size: usize) -> Cluster {
     cluster
 }
 
-/// The proved side fills the plan's bytes; the model also fills the rows.
+/// Both fill the plan and the table.
 fn plan_row(name: &'static str, cluster: &Cluster) -> Row {
     let &Cluster { n, m, ref bytes } = cluster;
     let present = (1 << n) - 1;
-    let (mut plan, mut status, mut number) = (vec![0; m], 0, 0);
-    let (mut other_plan, mut rows) = (vec![0; m], vec![model::ReplicaRow::default(); n]);
+    let (mut plan, mut rows) = (vec![0; m], vec![proved::clusters::ReplicaRow::default(); n]);
+    let (mut status, mut number) = (0, 0);
+    let (mut other_plan, mut other_rows) = (vec![0; m], vec![model::ReplicaRow::default(); n]);
     compare(
         name,
         || {
             let bytes = black_box(bytes);
+            let (plan, rows) = (&mut plan, &mut rows);
             let (status, number) = (&mut status, &mut number);
-            proved::clusters::plan_bytes(bytes, n, m, 1, present, &mut plan, status, number)
+            proved::clusters::plan(bytes, n, m, 1, present, plan, rows, status, number)
         },
         || {
             let bytes = black_box(bytes);
-            model::plan(bytes, n, m, 1, present, &mut other_plan, &mut rows)
+            model::plan(bytes, n, m, 1, present, &mut other_plan, &mut other_rows)
         },
     )
 }

@@ -14,12 +14,14 @@ const CLUSTERS: u64 = 1_000_000;
 const RECOVERIES: u64 = 30_000;
 const THREADS: u64 = 2;
 
-/// How often each refusal came, by its number, 0 for none; each status; each byte of a plan.
+/// How often each refusal came, by its number, 0 for none; each status; each byte of a plan; a row of
+/// no replica within reach, of an empty log, and of a log with an epoch.
 #[derive(Clone, Debug, PartialEq, Eq)]
 struct Coverage {
     refusals: [u64; 14],
     statuses: [u64; 2],
     bytes: [u64; 18],
+    rows: [u64; 3],
 }
 
 impl Coverage {
@@ -28,6 +30,7 @@ impl Coverage {
             refusals: [0; 14],
             statuses: [0; 2],
             bytes: [0; 18],
+            rows: [0; 3],
         }
     }
 
@@ -36,6 +39,7 @@ impl Coverage {
             (&mut self.refusals[..], &other.refusals[..]),
             (&mut self.statuses, &other.statuses),
             (&mut self.bytes, &other.bytes),
+            (&mut self.rows, &other.rows),
         ];
         for (sum, more) in pairs {
             for (sum, more) in sum.iter_mut().zip(more) {
@@ -56,14 +60,16 @@ impl Coverage {
         enough("status", &self.statuses, &[0, 1]);
         let bytes = [0, 1, 2, 3, 4, 5, 11, 12, 13, 14, 15, 16, 17];
         enough("plan byte", &self.bytes, &bytes);
+        enough("row", &self.rows, &[0, 1, 2]);
     }
 }
 
-/// A cluster, what the planner's call names, and how long the plan is that it is lent.
+/// A cluster, what the planner's call names, and how long the plan and the table are that it is lent.
 #[derive(Clone, Debug)]
 struct Planning {
     case: Case,
     slots: usize,
+    rows: usize,
 }
 
 /// Prints the case that fails.
@@ -72,7 +78,7 @@ struct Shown<'a>(&'a Planning);
 impl Drop for Shown<'_> {
     fn drop(&mut self) {
         if thread::panicking() {
-            let Planning { case, slots } = self.0;
+            let Planning { case, slots, rows } = self.0;
             let Case {
                 n,
                 m,
@@ -80,9 +86,8 @@ impl Drop for Shown<'_> {
                 present,
                 cluster,
             } = case;
-            eprintln!(
-                "failed: n {n}, m {m}, leader {leader}, present {present:#b}, plan of {slots}"
-            );
+            eprintln!("failed: n {n}, m {m}, leader {leader}, present {present:#b}");
+            eprintln!("plan of {slots}, table of {rows}");
             eprintln!("b\"{}\"", cluster.escape_ascii());
         }
     }
@@ -93,10 +98,32 @@ fn number<T>(answer: Result<T, Refusal>) -> u8 {
     answer.err().map_or(0, Refusal::number)
 }
 
+/// The model's rows as the proved call lays them out.
+fn laid_out(rows: &[ReplicaRow]) -> Vec<proved::ReplicaRow> {
+    let row = |row: &ReplicaRow| proved::ReplicaRow {
+        readable: row.readable,
+        length: row.length,
+        last_epoch: row.last_epoch,
+    };
+    rows.iter().map(row).collect()
+}
+
+fn some_row(rng: &mut Rng) -> ReplicaRow {
+    ReplicaRow {
+        readable: rng.byte(),
+        length: rng.draw() as u32,
+        last_epoch: rng.draw() as u32,
+    }
+}
+
 /// Plans by both.
 fn compare(planning: &Planning) -> Coverage {
     let _shown = Shown(planning);
-    let &Planning { ref case, slots } = planning;
+    let &Planning {
+        ref case,
+        slots,
+        rows,
+    } = planning;
     let &Case {
         n,
         m,
@@ -108,23 +135,24 @@ fn compare(planning: &Planning) -> Coverage {
     let cluster = Guarded::new(&mut rng, &case.cluster);
     let mut all: Vec<u8> = (0..slots).map(|_| rng.byte()).collect();
     let mut plan = Guarded::new(&mut rng, &all);
+    let mut all_rows: Vec<ReplicaRow> = (0..rows).map(|_| some_row(&mut rng)).collect();
+    let mut table = Guarded::new(&mut rng, &laid_out(&all_rows));
     let (old_status, old_number) = (rng.byte(), rng.draw() as usize);
     let mut status = GuardedNumber::new(old_status, rng.byte());
     let mut slot = GuardedNumber::new(old_number, rng.draw() as usize);
-    let answer = proved::plan_bytes(
+    let answer = proved::plan(
         cluster.part(),
         n,
         m,
         leader,
         present,
         plan.part_mut(),
+        table.part_mut(),
         status.number_mut(),
         slot.number_mut(),
     );
-    // A table of n rows, unless n is refused in any case.
-    let mut rows = [ReplicaRow::default(); 9];
-    let rows = &mut rows[..n.min(9)];
-    let expected = model::plan(&case.cluster, n, m, leader, present, &mut all, rows);
+    let lent = (&mut all[..], &mut all_rows[..]);
+    let expected = model::plan(&case.cluster, n, m, leader, present, lent.0, lent.1);
     assert_eq!(answer, number(expected), "plan");
     let (named_status, named_number) = match expected {
         Ok(Answer::Ready(length)) => (0, length),
@@ -134,6 +162,7 @@ fn compare(planning: &Planning) -> Coverage {
     status.assert_is(named_status);
     slot.assert_is(named_number);
     plan.assert_holds(&all);
+    table.assert_holds(&laid_out(&all_rows));
     cluster.assert_holds(&case.cluster);
     let mut coverage = Coverage::new();
     coverage.refusals[usize::from(answer)] += 1;
@@ -142,11 +171,14 @@ fn compare(planning: &Planning) -> Coverage {
         for byte in all {
             coverage.bytes[usize::from(byte)] += 1;
         }
+        for row in all_rows {
+            coverage.rows[usize::from(row.readable) + usize::from(row.last_epoch > 0)] += 1;
+        }
     }
     coverage
 }
 
-/// Any cluster, and now and then a plan that is too short or too long.
+/// Any cluster, and now and then a plan or a table that is too short or too long.
 fn some_planning(rng: &mut Rng) -> Planning {
     let mut case = match rng.below(10) {
         0..=4 => agreed_case(rng).case,
@@ -162,7 +194,14 @@ fn some_planning(rng: &mut Rng) -> Planning {
     } else {
         slots
     };
-    Planning { case, slots }
+    // A table of n rows, unless n is refused in any case.
+    let rows = case.n.min(8);
+    let rows = if rng.chance(3) {
+        *rng.pick(&[0, rows.saturating_sub(1), rows + 1, 7])
+    } else {
+        rows
+    };
+    Planning { case, slots, rows }
 }
 
 #[test]
@@ -210,10 +249,40 @@ fn plans_of_every_slot_count() {
                         cluster: cluster.bytes.clone(),
                     },
                     slots: m,
+                    rows: n,
                 });
                 assert_eq!(coverage.statuses, [1, 0]);
             }
         }
+    }
+}
+
+/// A table of any other length is refused by 13 and left as it was, and so is the plan.
+#[test]
+fn tables_of_another_length() {
+    for n in [3, 5, 7] {
+        let mut cluster = Cluster::fresh(n, 2);
+        cluster.put(1, 1, 1, b"payload");
+        let planning = |rows, slots| Planning {
+            case: Case {
+                n,
+                m: 2,
+                leader: 1,
+                present: (1 << n) - 1,
+                cluster: cluster.bytes.clone(),
+            },
+            slots,
+            rows,
+        };
+        for rows in (0..=2 * n).filter(|&rows| rows != n) {
+            assert_eq!(compare(&planning(rows, 2)).refusals[13], 1);
+        }
+        assert_eq!(compare(&planning(n, 1)).refusals[13], 1);
+        let coverage = compare(&planning(n, 2));
+        assert_eq!(
+            (coverage.refusals[0], coverage.rows),
+            (1, [0, n as u64 - 1, 1])
+        );
     }
 }
 

@@ -1,10 +1,33 @@
 //! A cluster: each call answers 0, or the refusal's number, and then nothing that was lent has
 //! changed.
 
+/// A replica's row in the planner's table.
+#[repr(C)]
+#[derive(Clone, Copy, Debug, Default, PartialEq, Eq)]
+pub struct ReplicaRow {
+    /// 1 if the replica is present and its image is readable, else 0.
+    pub readable: u8,
+    pub length: u32,
+    pub last_epoch: u32,
+}
+
+/// A row that is the same number throughout, for guards.
+impl From<u8> for ReplicaRow {
+    fn from(byte: u8) -> ReplicaRow {
+        ReplicaRow {
+            readable: byte,
+            length: byte.into(),
+            last_epoch: byte.into(),
+        }
+    }
+}
+
 /// A slice is passed as its pointer and then its length.
 mod exported {
+    use super::ReplicaRow;
+
     extern "C" {
-        pub fn rope_plan_bytes(
+        pub fn rope_plan(
             cluster: *const u8,
             len: usize,
             n: usize,
@@ -13,6 +36,8 @@ mod exported {
             present: u32,
             plan: *mut u8,
             plan_len: usize,
+            rows: *mut ReplicaRow,
+            rows_len: usize,
             status: *mut u8,
             number: *mut usize,
         ) -> u8;
@@ -43,22 +68,25 @@ mod exported {
     }
 }
 
-/// Fills the plan's bytes; hands out 0 and the final length, or 1 and the lowest waiting slot.
-pub fn plan_bytes(
+/// Fills the plan of m bytes and the table of n rows; hands out 0 and the final length, or 1 and the
+/// lowest waiting slot.
+pub fn plan(
     cluster: &[u8],
     n: usize,
     m: usize,
     leader: usize,
     present: u32,
     plan: &mut [u8],
+    rows: &mut [ReplicaRow],
     status: &mut u8,
     number: &mut usize,
 ) -> u8 {
     let (cluster, len) = (cluster.as_ptr(), cluster.len());
     let (plan, plan_len) = (plan.as_mut_ptr(), plan.len());
+    let (rows, rows_len) = (rows.as_mut_ptr(), rows.len());
     unsafe {
-        exported::rope_plan_bytes(
-            cluster, len, n, m, leader, present, plan, plan_len, status, number,
+        exported::rope_plan(
+            cluster, len, n, m, leader, present, plan, plan_len, rows, rows_len, status, number,
         )
     }
 }
