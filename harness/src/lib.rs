@@ -10,3 +10,4 @@ pub mod guarded;
 pub mod model;
 pub mod property;
 pub mod proved;
+pub mod samples;

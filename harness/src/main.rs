@@ -3,6 +3,7 @@
 use std::env;
 use std::fs;
 use std::io::{self, Read, Write};
+use std::path::Path;
 use std::process::ExitCode;
 
 use harness::bench;
@@ -10,10 +11,12 @@ use harness::code::MODEL;
 use harness::generate::example_input;
 use harness::model;
 use harness::property;
+use harness::samples::write_samples;
 
 const USAGE: &str = "usage:
   harness report FILE                    print the plan for FILE (- for standard input)
   harness sample                         write the input of the printed example
+  harness samples DIR                    write small clusters and their plans into DIR
   harness property --cases N --seed S    check what recovery promises on generated clusters
   harness table                          try all damaged sets of four entries on three replicas
   harness bench                          time the proved functions beside the model's";
@@ -39,6 +42,7 @@ fn dispatch(arguments: &[String]) -> Result<(), String> {
     match subcommand.as_str() {
         "report" => report(rest),
         "sample" => sample(rest),
+        "samples" => all_samples(rest),
         "property" => check_property(rest),
         "table" => table(rest),
         "bench" => time_functions(rest),
@@ -62,6 +66,17 @@ fn report(arguments: &[String]) -> Result<(), String> {
 fn sample(arguments: &[String]) -> Result<(), String> {
     no_arguments("sample", arguments)?;
     print_bytes(&example_input())
+}
+
+/// Writes every sample and its plan.
+fn all_samples(arguments: &[String]) -> Result<(), String> {
+    let [folder] = arguments else {
+        return Err(format!("samples takes one DIR\n{USAGE}"));
+    };
+    if folder.starts_with("--") {
+        return Err(format!("unknown flag '{folder}'\n{USAGE}"));
+    }
+    write_samples(Path::new(folder)).map_err(|error| format!("cannot write '{folder}': {error}"))
 }
 
 fn read_input(file: &str) -> io::Result<Vec<u8>> {

@@ -1,0 +1,130 @@
+//! Small clusters to look at: inputs of the printing program, each with what it prints.
+
+use std::fs;
+use std::io;
+use std::path::Path;
+
+use crate::generate::Cluster;
+use crate::model;
+
+/// An input of the printing program.
+pub struct Sample {
+    pub name: &'static str,
+    pub input: Vec<u8>,
+}
+
+impl Sample {
+    /// What the printing program prints for it.
+    pub fn plan(&self) -> Vec<u8> {
+        model::report(&self.input)
+    }
+}
+
+/// The readings that every sample begins with.
+const READINGS: [&[u8]; 3] = [
+    b"metre 1204, wire broken",
+    b"metre 1207, no signal",
+    b"metre 1212, wire broken",
+];
+
+/// All samples, in the order in which they are best read.
+pub fn samples() -> Vec<Sample> {
+    vec![
+        healthy(),
+        damaged_entry(),
+        lost_record(),
+        unconfirmed_tail(),
+        waiting(),
+        refused_header(),
+        unreadable_follower(),
+    ]
+}
+
+/// Writes NAME.in and NAME.plan for each sample into a folder, which is made if it is not there.
+pub fn write_samples(folder: &Path) -> io::Result<()> {
+    fs::create_dir_all(folder)?;
+    for sample in samples() {
+        fs::write(folder.join(format!("{}.in", sample.name)), &sample.input)?;
+        fs::write(folder.join(format!("{}.plan", sample.name)), sample.plan())?;
+    }
+    Ok(())
+}
+
+/// n replicas of four slots that all hold the readings in epoch 1.
+fn agreeing(n: usize) -> Cluster {
+    let mut cluster = Cluster::fresh(n, 4);
+    for replica in 1..=n {
+        for (at, reading) in READINGS.iter().enumerate() {
+            cluster.put(replica, at + 1, 1, reading);
+        }
+    }
+    cluster
+}
+
+/// Changes the first byte of a payload, behind the columns of 11, 11 and 4.
+fn spoil_entry(cluster: &mut Cluster, replica: usize, slot: usize) {
+    cluster.entry_mut(replica, slot)[26] ^= 1;
+}
+
+/// The leader is replica 1, and the set has a bit for each present replica.
+fn sample(name: &'static str, cluster: Cluster, present: &[usize]) -> Sample {
+    let set: u32 = present.iter().map(|replica| 1 << (replica - 1)).sum();
+    let mut input = format!("{:>3}{:>3}  1{set:>4}\n", cluster.n, cluster.m).into_bytes();
+    input.extend(&cluster.bytes);
+    Sample { name, input }
+}
+
+/// Nothing is to be done.
+fn healthy() -> Sample {
+    sample("healthy", agreeing(3), &[1, 2, 3])
+}
+
+/// The leader's second entry is spoilt, and replica 2's as well: it comes from replica 3.
+fn damaged_entry() -> Sample {
+    let mut cluster = agreeing(3);
+    spoil_entry(&mut cluster, 1, 2);
+    spoil_entry(&mut cluster, 2, 2);
+    sample("damaged-entry", cluster, &[1, 2, 3])
+}
+
+/// The leader's second record is overwritten beside its intact entry.
+fn lost_record() -> Sample {
+    let mut cluster = agreeing(3);
+    cluster.record_mut(1, 2).fill(b'#');
+    sample("lost-record", cluster, &[1, 2, 3])
+}
+
+/// The leader was writing a fourth reading when the power failed; no other replica has it.
+fn unconfirmed_tail() -> Sample {
+    let mut cluster = agreeing(3);
+    cluster.put(1, 4, 1, b"metre 1219, strand loose");
+    cluster.entry_mut(1, 4)[40..].fill(b' ');
+    sample("unconfirmed-tail", cluster, &[1, 2, 3])
+}
+
+/// Of five replicas two are away. The leader's third entry is spoilt; replica 2 never had it and
+/// replica 3's is spoilt too, so nobody can tell whether it may go.
+fn waiting() -> Sample {
+    let mut cluster = agreeing(5);
+    spoil_entry(&mut cluster, 1, 3);
+    let fresh = Cluster::fresh(5, 4);
+    cluster.record_mut(2, 3).copy_from_slice(fresh.record(2, 3));
+    cluster.entry_mut(2, 3).copy_from_slice(fresh.entry(2, 3));
+    spoil_entry(&mut cluster, 3, 3);
+    sample("waiting", cluster, &[1, 2, 3])
+}
+
+/// The leader's header is spoilt, so its image is not read.
+fn refused_header() -> Sample {
+    let mut cluster = agreeing(3);
+    cluster.header_mut(1)[0] = b'#';
+    sample("refused-header", cluster, &[1, 2, 3])
+}
+
+/// The header of replica 2 is spoilt: it counts as away, and replica 3 gives the entry.
+fn unreadable_follower() -> Sample {
+    let mut cluster = agreeing(3);
+    spoil_entry(&mut cluster, 1, 1);
+    cluster.header_mut(2)[0] = b'#';
+    sample("unreadable-follower", cluster, &[1, 2, 3])
+}
