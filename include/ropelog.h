@@ -1,0 +1,239 @@
+/* The rope log for C: every function of target/staticlib/libropelog.a, which `rt staticlib ropelog` writes.
+ *
+ * Words. A replica is a cabinet with its memory card, a cluster is all n of them, n being 3, 5 or 7. Replicas are numbered 1 to n.
+ * An image is the content of one card: a header, then m records, then m entries, m being 1 to 64. Slot k of the log, counted from 1,
+ * has record k (its epoch and index) and entry k (its epoch, index and payload). A slot is used if its record is not blank. The log's
+ * length is the number of used slots. A cluster's buffer is n images end to end, all with the same m, replica 1 first.
+ *
+ * Refusals. Unless its comment says otherwise, a function returns 0 (ROPE_DONE) or the number of a refusal (enum rope_refusal). If
+ * several refusals apply, the lowest number is returned. A refused call changes nothing: no byte of a lent buffer, no row, no number
+ * behind a pointer. Any number and any buffer content may be passed; nothing has to be checked before a call.
+ *
+ * Buffers. A buffer crosses as two arguments, its address and then its length, which counts elements (bytes, uint32_t or rows). A
+ * number that is handed out crosses as an address. The caller owes five things:
+ *   - an address leads to as many elements as the length says, and is aligned for them;
+ *   - no address is NULL; behind an address with length 0 nothing is read or written;
+ *   - every byte lent to be read has a value, and so has every number and row that a function may hand out to;
+ *   - what a function may write overlaps nothing else that the same call is given;
+ *   - nothing else, such as another thread or a mapped file that changes, touches any of it until the call returns.
+ * No function keeps an address, takes memory from the heap, or holds anything between calls.
+ */
+#ifndef ROPELOG_H
+#define ROPELOG_H
+
+#include <stddef.h>
+#include <stdint.h>
+
+#ifdef __cplusplus
+extern "C" {
+#endif
+
+/* The archive is for x86-64 Linux, where size_t has 64 bits; elsewhere this line does not compile. */
+typedef char rope_needs_64_bit_sizes[sizeof(size_t) == 8 ? 1 : -1];
+
+/* ---- Sizes, in bytes ---------------------------------------------------------------------------------------------------------- */
+
+#define ROPE_HEADER_SIZE 28 /* "rope", edition, replica, n, m, checksum, newline */
+#define ROPE_RECORD_SIZE 34 /* epoch, index, checksum, newline */
+#define ROPE_ENTRY_SIZE 240 /* epoch, index, length, payload, checksum, newline, spaces to the end */
+#define ROPE_MAX_PAYLOAD 200 /* bytes of payload in one entry, of any values */
+#define ROPE_MAX_SLOTS 64
+#define ROPE_MAX_REPLICAS 7
+
+/* An image of m slots has 28 + 274 * m bytes, and a cluster n times as many. */
+#define ROPE_IMAGE_SIZE(m) ((size_t)28 + (size_t)274 * (size_t)(m))
+#define ROPE_CLUSTER_SIZE(n, m) ((size_t)(n) * ROPE_IMAGE_SIZE(m))
+
+/* Where the image of a replica begins in its cluster, and where the record and the entry of a slot begin in their image. */
+#define ROPE_IMAGE_AT(m, replica) (((size_t)(replica) - 1) * ROPE_IMAGE_SIZE(m))
+#define ROPE_RECORD_AT(slot) ((size_t)28 + (size_t)34 * ((size_t)(slot) - 1))
+#define ROPE_ENTRY_AT(m, slot) ((size_t)28 + (size_t)34 * (size_t)(m) + (size_t)240 * ((size_t)(slot) - 1))
+
+/* In a present set the bit of replica c is worth 2 to the power c - 1. The second macro is the set of all n replicas. */
+#define ROPE_BIT(replica) ((uint32_t)1 << ((replica) - 1))
+#define ROPE_ALL(n) (((uint32_t)1 << (n)) - 1)
+
+/* No run makes more stores than this, so a run with this budget is never spent. */
+#define ROPE_ENOUGH_STORES(n, m) ((uint64_t)3 * (uint64_t)(n) * (uint64_t)(m))
+
+/* ---- The numbers -------------------------------------------------------------------------------------------------------------- */
+
+/* Why a call is refused. 4 to 7 are found in one image: the calls about a cluster treat a present replica whose image has such a
+ * refusal as away, and are refused only if it is the leader (12). */
+enum rope_refusal {
+    ROPE_DONE = 0,                      /* not refused */
+    ROPE_REFUSED_SLOT_COUNT = 1,        /* m is not 1 to 64 */
+    ROPE_REFUSED_REPLICA_COUNT = 2,     /* n is not 3, 5 or 7, or the replica of an image is not 1 to n */
+    ROPE_REFUSED_BUFFER_LENGTH = 3,     /* the buffer of an image, a cluster or a piece has the wrong length */
+    ROPE_REFUSED_HEADER = 4,            /* the header is not the one that is written for this replica, n and m */
+    ROPE_REFUSED_USED_AFTER_BLANK = 5,  /* a used slot stands after a blank record */
+    ROPE_REFUSED_BOTH_LOST = 6,         /* a bad record stands beside an entry that is not intact */
+    ROPE_REFUSED_EPOCH_FALLS = 7,       /* a used slot's epoch is below an earlier slot's */
+    ROPE_REFUSED_APPEND_EPOCH = 8,      /* append: the epoch is 0, or below the last used slot's */
+    ROPE_REFUSED_APPEND_PAYLOAD = 9,    /* append, or writing an entry: the payload has over 200 bytes */
+    ROPE_REFUSED_APPEND_FULL = 10,      /* append: all m slots are used */
+    ROPE_REFUSED_PRESENT = 11,          /* the present set has a bit for no replica */
+    ROPE_REFUSED_LEADER = 12,           /* the leader is not 1 to n, is not in the present set, or has an image that is refused */
+    ROPE_REFUSED_LENT_LENGTH = 13,      /* a lent result buffer or table has the wrong length */
+    ROPE_REFUSED_COMMAND_LINE = 14      /* the printing program alone: its first line is not well formed */
+};
+
+/* What rope_read says of a slot. 3 and 4 together are called faulty. */
+enum rope_verdict {
+    ROPE_UNUSED = 0,      /* the record is blank */
+    ROPE_INTACT = 1,      /* a good record beside an intact entry of its epoch */
+    ROPE_RECORD_LOST = 2, /* a bad record beside an intact entry: the slot is whole, its record is to be rewritten */
+    ROPE_CORRUPT = 3,     /* a good record whose entry is not intact with its epoch: damaged */
+    ROPE_AMBIGUOUS = 4,   /* as 3, at the last used slot, where a power failure and damage look alike */
+    ROPE_PARTIAL = 5      /* the first unused slot, if its entry is not all spaces: an append that was not finished, or was cut */
+};
+
+/* What the plan says of a slot of the leader. From ROPE_PLAN_FETCH + 1 on: fetch the entry from replica byte - ROPE_PLAN_FETCH. */
+enum rope_plan_byte {
+    ROPE_PLAN_UNUSED = 0,          /* nothing stands there */
+    ROPE_PLAN_WHOLE = 1,           /* nothing is to be done */
+    ROPE_PLAN_REWRITE_RECORD = 2,  /* the record is lost, and is written again from the entry */
+    ROPE_PLAN_WAIT = 3,            /* faulty, and the replicas that answer cannot decide */
+    ROPE_PLAN_TRUNCATE = 4,        /* the lowest slot that is cut: a majority of n does not have it */
+    ROPE_PLAN_TRUNCATED_AFTER = 5, /* a used slot behind that one: it goes with it */
+    ROPE_PLAN_FETCH = 10           /* plus the number of the replica: 11 to 17 */
+};
+
+/* The status that a plan hands out. */
+enum rope_plan_status {
+    ROPE_PLAN_READY = 0,  /* with the length that the leader's log will have */
+    ROPE_PLAN_WAITING = 1 /* with the lowest waiting slot */
+};
+
+/* The status that a step or a run hands out. */
+enum rope_status {
+    ROPE_RECOVERED = 0,  /* no store is outstanding */
+    ROPE_WAITING = 1,    /* the plan waits, and nothing was written */
+    ROPE_OUTSTANDING = 2 /* a step: it made a store. A run: its whole budget is used, and a store is still outstanding. */
+};
+
+/* What a step stored. */
+enum rope_store {
+    ROPE_STORE_ENTRY = 1,  /* one whole entry of 240 bytes */
+    ROPE_STORE_RECORD = 2, /* one record */
+    ROPE_STORE_BLANK = 3   /* one record blanked */
+};
+
+/* What the planner says of one replica. The layout is that of C: readable at byte 0, length at byte 4, last_epoch at byte 8, 12 bytes
+ * in all; the three bytes behind readable have no meaning. */
+typedef struct rope_row {
+    uint8_t readable;    /* 1 if the replica is present and its image is not refused, else 0 */
+    uint32_t length;     /* its log's length; 0 if it is not readable */
+    uint32_t last_epoch; /* the epoch of its last used slot; 0 if its log is empty or it is not readable */
+} rope_row;
+
+typedef char rope_row_has_12_bytes[sizeof(rope_row) == 12 ? 1 : -1];
+typedef char rope_row_length_at_4[offsetof(rope_row, length) == 4 ? 1 : -1];
+typedef char rope_row_last_epoch_at_8[offsetof(rope_row, last_epoch) == 8 ? 1 : -1];
+
+/* ---- One image ---------------------------------------------------------------------------------------------------------------- */
+
+/* Writes a fresh image over the whole buffer: a header, blank records, entries of spaces. Refusals 1 to 3. */
+uint8_t rope_format(uint8_t *image, size_t image_len, size_t replica, size_t n, size_t m);
+
+/* Writes the entry and then the record of the first unused slot, and hands out that slot. Epochs are 1 to 4,294,967,295 and never
+ * fall. After a cut, and for every new leader, take an epoch that was never used before. Refusals 1 to 10. */
+uint8_t rope_append(uint8_t *image, size_t image_len, size_t replica, size_t n, size_t m, uint32_t epoch, const uint8_t *payload,
+                    size_t payload_len, size_t *slot);
+
+/* Fills the epoch (0 if the slot is unused) and the verdict (enum rope_verdict) of each slot, and hands out the log's length. Both
+ * buffers have m elements, else 13, which is tried after all else. A slot's epoch is its record's if that is good, else its entry's.
+ * Refusals 1 to 7 and 13. */
+uint8_t rope_read(const uint8_t *image, size_t image_len, size_t replica, size_t n, size_t m, uint32_t *epochs, size_t epochs_len,
+                  uint8_t *verdicts, size_t verdicts_len, size_t *length);
+
+/* Hands out 1 if the slot has a payload (verdict 1 or 2), else 0; a slot that is not 1 to m has none, and an empty payload is one.
+ * Refusals 1 to 7. */
+uint8_t rope_has_payload(const uint8_t *image, size_t image_len, size_t replica, size_t n, size_t m, size_t slot, uint8_t *has);
+
+/* Returns 1 if the image is not refused and the slot has a payload, else 0: this is no refusal's number. With 1 it hands out where the
+ * payload begins in the image, and how many bytes it has; with 0 both numbers stay as they were. */
+uint8_t rope_payload(const uint8_t *image, size_t image_len, size_t replica, size_t n, size_t m, size_t slot, size_t *at,
+                     size_t *size);
+
+/* ---- A cluster ---------------------------------------------------------------------------------------------------------------- */
+
+/* Plans what is to be done about the leader's log, and writes nothing to the cluster. Fills m plan bytes (enum rope_plan_byte), one for
+ * each slot, and n rows, one for each replica; hands out a status (enum rope_plan_status), and as number the final length if ready, or
+ * the lowest waiting slot. A plan of other than m bytes or a table of other than n rows is 13, tried after all else.
+ * Refusals 1 to 3 and 11 to 13; for 2 only n counts. */
+uint8_t rope_plan(const uint8_t *cluster, size_t cluster_len, size_t n, size_t m, size_t leader, uint32_t present, uint8_t *plan,
+                  size_t plan_len, rope_row *rows, size_t rows_len, uint8_t *status, size_t *number);
+
+/* Works out the plan afresh and makes the first store still outstanding. Hands out a status (enum rope_status): ROPE_RECOVERED; or
+ * ROPE_WAITING with the lowest waiting slot; or ROPE_OUTSTANDING with the replica, the slot and the kind (enum rope_store) of the
+ * store it made. A number that goes with another status stays as it was. The store must be on the card of that replica before the
+ * next step. Refusals 1 to 3, 11 and 12; for 2 only n counts. */
+uint8_t rope_step(uint8_t *cluster, size_t cluster_len, size_t n, size_t m, size_t leader, uint32_t present, uint8_t *status,
+                  size_t *replica, size_t *slot, uint8_t *kind);
+
+/* Makes steps while the budget of stores lasts. Hands out a status (enum rope_status): ROPE_RECOVERED or ROPE_OUTSTANDING with the
+ * number of stores made, or ROPE_WAITING with the lowest waiting slot. A number that goes with another status stays as it was. The
+ * stores of a run follow each other with nothing between them: on a card that takes them in another order, make steps instead.
+ * Refusals as for rope_step. */
+uint8_t rope_run(uint8_t *cluster, size_t cluster_len, size_t n, size_t m, size_t leader, uint32_t present, uint64_t budget,
+                 uint8_t *status, uint64_t *stores, size_t *slot);
+
+/* ---- The pieces of an image --------------------------------------------------------------------------------------------------- */
+
+/* The checksum of some bytes. Returns the checksum itself. */
+uint32_t rope_checksum(const uint8_t *bytes, size_t bytes_len);
+
+/* Writes a number over the whole column: decimal, right-justified with spaces. Of a number that is too wide its last digits stand
+ * there. Returns nothing. */
+void rope_write_number(uint8_t *column, size_t column_len, uint64_t number);
+
+/* What rope_read_column returns. */
+enum rope_column {
+    ROPE_COLUMN_NUMBER = 0,    /* a number, which is handed out */
+    ROPE_COLUMN_BLANK = 1,     /* spaces alone */
+    ROPE_COLUMN_MALFORMED = 2, /* anything that rope_write_number does not write */
+    ROPE_COLUMN_TOO_WIDE = 3   /* a column of over 19 bytes, which is not read */
+};
+
+/* Reads a column strictly; one of no bytes holds the number 0. Returns enum rope_column. */
+uint8_t rope_read_column(const uint8_t *column, size_t column_len, uint64_t *value);
+
+/* Write a header, a record, a blank record, an entry, an entry of spaces: each over a buffer of exactly that size, else 3. The entry's
+ * payload has at most 200 bytes, else 9. The numbers are written as they are, whatever they are. */
+uint8_t rope_write_header(uint8_t *header, size_t header_len, size_t replica, size_t n, size_t m);
+uint8_t rope_write_record(uint8_t *record, size_t record_len, uint32_t epoch, uint32_t index);
+uint8_t rope_write_blank_record(uint8_t *record, size_t record_len);
+uint8_t rope_write_entry(uint8_t *entry, size_t entry_len, uint32_t epoch, uint32_t index, const uint8_t *payload,
+                         size_t payload_len);
+uint8_t rope_write_fresh_entry(uint8_t *entry, size_t entry_len);
+
+/* Returns 1 if the bytes are the header that is written for this replica, n and m, else 0. */
+uint8_t rope_is_header(const uint8_t *header, size_t header_len, size_t replica, size_t n, size_t m);
+
+/* What rope_judge_record returns. */
+enum rope_record {
+    ROPE_RECORD_GOOD = 0,        /* what is written for this index and the epoch that is handed out */
+    ROPE_RECORD_BLANK = 1,       /* 33 spaces and a newline */
+    ROPE_RECORD_BAD = 2,         /* neither */
+    ROPE_RECORD_WRONG_LENGTH = 3 /* not 34 bytes */
+};
+
+/* Judges the record of an index. Returns enum rope_record. */
+uint8_t rope_judge_record(const uint8_t *record, size_t record_len, uint32_t index, uint32_t *epoch);
+
+/* What rope_judge_entry returns. */
+enum rope_entry {
+    ROPE_ENTRY_INTACT = 0,      /* what is written for this index, the epoch and a payload of the length that are handed out */
+    ROPE_ENTRY_BROKEN = 1,      /* not so */
+    ROPE_ENTRY_WRONG_LENGTH = 3 /* not 240 bytes */
+};
+
+/* Judges the entry of an index. The payload begins at byte 26 of an intact entry. Returns enum rope_entry. */
+uint8_t rope_judge_entry(const uint8_t *entry, size_t entry_len, uint32_t index, uint32_t *epoch, size_t *size);
+
+#ifdef __cplusplus
+}
+#endif
+
+#endif
