@@ -1,0 +1,211 @@
+//! The numbers that shape a cluster: its replicas and slots, sets of replicas, epochs.
+
+use std::fmt;
+use std::num::NonZeroU32;
+use std::ops::Range;
+
+use crate::exported::rope_format;
+use crate::refusal::{accepted, Refusal};
+use crate::{ENTRY_LEN, HEADER_LEN, RECORD_LEN};
+
+/// How many replicas a cluster has, and how many slots each of their images has.
+#[derive(Clone, Copy, Debug, PartialEq, Eq, Hash)]
+pub struct Geometry {
+    n: usize,
+    m: usize,
+}
+
+impl Geometry {
+    /// n replicas with m slots each. Refused are m other than 1 to 64, then n other than 3, 5 or 7.
+    pub fn new(n: usize, m: usize) -> Result<Geometry, Refusal> {
+        judge(1, n, m)?;
+        Ok(Geometry { n, m })
+    }
+
+    /// n, the number of replicas.
+    pub fn replica_count(self) -> usize {
+        self.n
+    }
+
+    /// m, the number of slots of each image.
+    pub fn slot_count(self) -> usize {
+        self.m
+    }
+
+    /// The bytes of one image.
+    pub fn image_len(self) -> usize {
+        HEADER_LEN + (RECORD_LEN + ENTRY_LEN) * self.m
+    }
+
+    /// The bytes of a cluster: all its images end to end.
+    pub fn cluster_len(self) -> usize {
+        self.n * self.image_len()
+    }
+
+    /// The replica with this number, counted from 1, or [`Refusal::ReplicaCount`].
+    pub fn replica(self, number: usize) -> Result<Replica, Refusal> {
+        judge(number, self.n, self.m)?;
+        Ok(Replica(number))
+    }
+
+    /// All replicas, by number.
+    pub fn replicas(self) -> impl Iterator<Item = Replica> {
+        (1..=self.n).map(Replica)
+    }
+
+    /// The set of all replicas.
+    pub fn all_present(self) -> ReplicaSet {
+        self.replicas().collect()
+    }
+
+    /// Where the image of a replica stands in its cluster.
+    ///
+    /// # Panics
+    ///
+    /// If the replica is not one of this geometry's.
+    pub fn image_range(self, replica: Replica) -> Range<usize> {
+        assert!(replica.0 <= self.n, "{replica} of {} replicas", self.n);
+        let start = (replica.0 - 1) * self.image_len();
+        start..start + self.image_len()
+    }
+
+    /// Where the record of a slot, counted from 1, stands in its image.
+    ///
+    /// # Panics
+    ///
+    /// If the slot is not 1 to m.
+    pub fn record_range(self, slot: usize) -> Range<usize> {
+        self.expect_slot(slot);
+        let start = HEADER_LEN + RECORD_LEN * (slot - 1);
+        start..start + RECORD_LEN
+    }
+
+    /// Where the entry of a slot, counted from 1, stands in its image.
+    ///
+    /// # Panics
+    ///
+    /// If the slot is not 1 to m.
+    pub fn entry_range(self, slot: usize) -> Range<usize> {
+        self.expect_slot(slot);
+        let start = HEADER_LEN + RECORD_LEN * self.m + ENTRY_LEN * (slot - 1);
+        start..start + ENTRY_LEN
+    }
+
+    /// A budget that no run uses up: 3 × n × m stores.
+    pub fn enough_stores(self) -> u64 {
+        3 * self.n as u64 * self.m as u64
+    }
+
+    fn expect_slot(self, slot: usize) {
+        assert!((1..=self.m).contains(&slot), "slot {slot} of {}", self.m);
+    }
+}
+
+/// The proved functions judge the numbers: an image of no bytes is refused by 3 if these are good.
+fn judge(replica: usize, n: usize, m: usize) -> Result<(), Refusal> {
+    let image: &mut [u8] = &mut [];
+    // SAFETY: the slice is lent for the call.
+    let number = unsafe { rope_format(image.as_mut_ptr(), image.len(), replica, n, m) };
+    match accepted("rope_format", number) {
+        Err(Refusal::BufferLength) => Ok(()),
+        answer => answer,
+    }
+}
+
+/// A replica, by its number from 1. [`Geometry::replica`] makes one.
+#[derive(Clone, Copy, Debug, PartialEq, Eq, PartialOrd, Ord, Hash)]
+pub struct Replica(pub(crate) usize);
+
+impl Replica {
+    /// Its number, from 1.
+    pub fn number(self) -> usize {
+        self.0
+    }
+}
+
+impl fmt::Display for Replica {
+    fn fmt(&self, f: &mut fmt::Formatter<'_>) -> fmt::Result {
+        write!(f, "replica {}", self.0)
+    }
+}
+
+/// A set of replicas, such as those that are present. It is collected from replicas.
+#[derive(Clone, Copy, Debug, Default, PartialEq, Eq, Hash)]
+pub struct ReplicaSet {
+    word: u32,
+}
+
+impl ReplicaSet {
+    /// The set of no replica.
+    pub const EMPTY: ReplicaSet = ReplicaSet { word: 0 };
+
+    /// This set and that replica.
+    pub fn with(self, replica: Replica) -> ReplicaSet {
+        ReplicaSet {
+            word: self.word | bit(replica),
+        }
+    }
+
+    /// This set without that replica.
+    pub fn without(self, replica: Replica) -> ReplicaSet {
+        ReplicaSet {
+            word: self.word & !bit(replica),
+        }
+    }
+
+    /// Whether the replica is in the set.
+    pub fn contains(self, replica: Replica) -> bool {
+        self.word & bit(replica) != 0
+    }
+
+    /// The word by which C and the printing program name the set: bit c − 1 stands for replica c.
+    pub fn word(self) -> u32 {
+        self.word
+    }
+}
+
+/// No geometry has a replica past 7, so the shift stays inside the word.
+fn bit(replica: Replica) -> u32 {
+    1 << (replica.0 - 1)
+}
+
+impl FromIterator<Replica> for ReplicaSet {
+    fn from_iter<I: IntoIterator<Item = Replica>>(replicas: I) -> ReplicaSet {
+        replicas
+            .into_iter()
+            .fold(ReplicaSet::EMPTY, ReplicaSet::with)
+    }
+}
+
+/// An epoch, 1 to 4,294,967,295. After a cut, and for every new leader, take one that was never used
+/// before: an entry that a cut left behind could otherwise be taken for a new one.
+#[derive(Clone, Copy, Debug, PartialEq, Eq, PartialOrd, Ord, Hash)]
+pub struct Epoch(NonZeroU32);
+
+impl Epoch {
+    /// The first epoch, 1.
+    pub const FIRST: Epoch = Epoch(NonZeroU32::MIN);
+
+    /// The epoch with this number; 0 is [`Refusal::AppendEpoch`].
+    pub fn new(number: u32) -> Result<Epoch, Refusal> {
+        NonZeroU32::new(number)
+            .map(Epoch)
+            .ok_or(Refusal::AppendEpoch)
+    }
+
+    /// Its number.
+    pub fn number(self) -> u32 {
+        self.0.get()
+    }
+
+    /// The next epoch, if this is not the last.
+    pub fn next(self) -> Option<Epoch> {
+        self.0.checked_add(1).map(Epoch)
+    }
+}
+
+impl fmt::Display for Epoch {
+    fn fmt(&self, f: &mut fmt::Formatter<'_>) -> fmt::Result {
+        write!(f, "epoch {}", self.0)
+    }
+}

@@ -1,0 +1,218 @@
+//! One image: made fresh, appended to, read, and asked for payloads.
+
+use std::fmt;
+
+use crate::exported::{self, no_such};
+use crate::geometry::{Epoch, Geometry, Replica};
+use crate::refusal::{accepted, Refusal};
+use crate::MAX_SLOTS;
+
+/// What a reader says of a slot.
+#[derive(Clone, Copy, Debug, PartialEq, Eq, Hash)]
+pub enum Verdict {
+    /// 0: the record is blank.
+    Unused,
+    /// 1: a good record beside an intact entry of its epoch.
+    Intact,
+    /// 2: a bad record beside an intact entry: the slot is whole, its record is to be rewritten.
+    RecordLost,
+    /// 3: a good record whose entry is not intact with its epoch.
+    Corrupt,
+    /// 4: the same at the last used slot, where a power failure and damage look alike.
+    Ambiguous,
+    /// 5: the first unused slot, if its entry is not all spaces.
+    Partial,
+}
+
+impl Verdict {
+    /// The number, 0 to 5, by which C names it.
+    pub fn number(self) -> u8 {
+        self as u8
+    }
+
+    /// Whether the slot has its payload: intact, or only its record lost.
+    pub fn is_whole(self) -> bool {
+        matches!(self, Verdict::Intact | Verdict::RecordLost)
+    }
+
+    /// Whether the slot is used and has lost its payload: corrupt or ambiguous.
+    pub fn is_faulty(self) -> bool {
+        matches!(self, Verdict::Corrupt | Verdict::Ambiguous)
+    }
+
+    fn from_number(number: u8) -> Verdict {
+        match number {
+            0 => Verdict::Unused,
+            1 => Verdict::Intact,
+            2 => Verdict::RecordLost,
+            3 => Verdict::Corrupt,
+            4 => Verdict::Ambiguous,
+            5 => Verdict::Partial,
+            number => no_such("rope_read", number),
+        }
+    }
+}
+
+impl fmt::Display for Verdict {
+    fn fmt(&self, f: &mut fmt::Formatter<'_>) -> fmt::Result {
+        f.write_str(match self {
+            Verdict::Unused => "unused",
+            Verdict::Intact => "intact",
+            Verdict::RecordLost => "record lost",
+            Verdict::Corrupt => "corrupt",
+            Verdict::Ambiguous => "ambiguous",
+            Verdict::Partial => "partial",
+        })
+    }
+}
+
+/// What a reader says of one slot.
+#[derive(Clone, Copy, Debug, PartialEq, Eq)]
+pub struct SlotState {
+    /// The slot's epoch; none if it is unused.
+    pub epoch: Option<Epoch>,
+    /// The slot's verdict.
+    pub verdict: Verdict,
+}
+
+/// What a reader says of an image.
+#[derive(Clone, Copy, Debug, PartialEq, Eq)]
+pub struct Log {
+    length: usize,
+    slots: usize,
+    states: [SlotState; MAX_SLOTS],
+}
+
+impl Log {
+    /// The log's length: how many slots are used.
+    pub fn length(&self) -> usize {
+        self.length
+    }
+
+    /// The state of every slot, used or not; slot k stands at k − 1.
+    pub fn states(&self) -> &[SlotState] {
+        &self.states[..self.slots]
+    }
+
+    /// The state of a slot, counted from 1; none if there is no such slot.
+    pub fn slot(&self, slot: usize) -> Option<SlotState> {
+        self.states().get(slot.checked_sub(1)?).copied()
+    }
+}
+
+/// Writes a fresh image over the whole buffer: a header, blank records, entries of spaces.
+///
+/// Refused is a buffer of the wrong length, and a replica of another geometry.
+pub fn format(image: &mut [u8], geometry: Geometry, replica: Replica) -> Result<(), Refusal> {
+    let (n, m) = (geometry.replica_count(), geometry.slot_count());
+    // SAFETY: the slice is lent for the call.
+    let number = unsafe { exported::rope_format(image.as_mut_ptr(), image.len(), replica.0, n, m) };
+    accepted("rope_format", number)
+}
+
+/// Writes the entry and then the record of the first unused slot, and answers that slot, from 1.
+///
+/// Refused are an image that is refused for reading, an epoch below the last used slot's, a payload
+/// of over 200 bytes, and a full log.
+pub fn append(
+    image: &mut [u8],
+    geometry: Geometry,
+    replica: Replica,
+    epoch: Epoch,
+    payload: &[u8],
+) -> Result<usize, Refusal> {
+    let (n, m) = (geometry.replica_count(), geometry.slot_count());
+    let mut slot = 0;
+    // SAFETY: the slices and the number are lent for the call, and none overlaps another.
+    let number = unsafe {
+        exported::rope_append(
+            image.as_mut_ptr(),
+            image.len(),
+            replica.0,
+            n,
+            m,
+            epoch.number(),
+            payload.as_ptr(),
+            payload.len(),
+            &mut slot,
+        )
+    };
+    accepted("rope_append", number)?;
+    Ok(slot)
+}
+
+/// Reads an image: the epoch and the verdict of each slot.
+pub fn read(image: &[u8], geometry: Geometry, replica: Replica) -> Result<Log, Refusal> {
+    let (n, m) = (geometry.replica_count(), geometry.slot_count());
+    let mut epochs = [0; MAX_SLOTS];
+    let mut verdicts = [0; MAX_SLOTS];
+    let mut length = 0;
+    // SAFETY: the slices and the number are lent for the call, and none overlaps another.
+    let number = unsafe {
+        exported::rope_read(
+            image.as_ptr(),
+            image.len(),
+            replica.0,
+            n,
+            m,
+            epochs[..m].as_mut_ptr(),
+            m,
+            verdicts[..m].as_mut_ptr(),
+            m,
+            &mut length,
+        )
+    };
+    accepted("rope_read", number)?;
+    let states = std::array::from_fn(|at| SlotState {
+        epoch: Epoch::new(epochs[at]).ok(),
+        verdict: Verdict::from_number(verdicts[at]),
+    });
+    Ok(Log {
+        length,
+        slots: m,
+        states,
+    })
+}
+
+/// Whether a slot, counted from 1, has a payload. An empty payload is one; a slot that the image does
+/// not have has none.
+pub fn has_payload(
+    image: &[u8],
+    geometry: Geometry,
+    replica: Replica,
+    slot: usize,
+) -> Result<bool, Refusal> {
+    let (n, m) = (geometry.replica_count(), geometry.slot_count());
+    let mut has = 0;
+    // SAFETY: the slice and the number are lent for the call, and do not overlap.
+    let number = unsafe {
+        exported::rope_has_payload(image.as_ptr(), image.len(), replica.0, n, m, slot, &mut has)
+    };
+    accepted("rope_has_payload", number)?;
+    Ok(has == 1)
+}
+
+/// The payload of a slot, counted from 1, as a part of the image. There is none if the slot is not
+/// whole or the image is refused; [`has_payload`] tells the two apart.
+pub fn payload(image: &[u8], geometry: Geometry, replica: Replica, slot: usize) -> Option<&[u8]> {
+    let (n, m) = (geometry.replica_count(), geometry.slot_count());
+    let (mut at, mut size) = (0, 0);
+    // SAFETY: the slice and the numbers are lent for the call, and none overlaps another.
+    let found = unsafe {
+        exported::rope_payload(
+            image.as_ptr(),
+            image.len(),
+            replica.0,
+            n,
+            m,
+            slot,
+            &mut at,
+            &mut size,
+        )
+    };
+    match found {
+        0 => None,
+        1 => Some(&image[at..at + size]),
+        number => no_such("rope_payload", number),
+    }
+}

@@ -1,0 +1,60 @@
+//! The proved rope log, safe to call from Rust.
+//!
+//! A *replica* is a cabinet with its memory card; a *cluster* is all of them. The card of a replica
+//! holds an *image*: a header, then a record for each *slot* of the log, then an entry for each. A
+//! record says that its slot is used, and in which *epoch*; an entry holds the *payload*. Slots and
+//! replicas are numbered from 1.
+//!
+//! [`format`], [`append`], [`read`], [`payload`] and [`has_payload`] are about one image; [`plan`],
+//! [`step`] and [`run`] about a cluster, which is one buffer with all images end to end.
+//!
+//! A call that is refused ([`Refusal`]) has changed nothing. The functions behind the calls are
+//! proved for every buffer and every number, so nothing has to be checked before a call.
+//!
+//! ```
+//! use ropelog::{append, format, payload, plan, Epoch, Geometry, PlanAnswer};
+//!
+//! let geometry = Geometry::new(3, 2)?;
+//! let mut cluster = vec![0; geometry.cluster_len()];
+//! for replica in geometry.replicas() {
+//!     let image = &mut cluster[geometry.image_range(replica)];
+//!     format(image, geometry, replica)?;
+//!     append(image, geometry, replica, Epoch::FIRST, b"metre 1204, wire broken")?;
+//! }
+//! let leader = geometry.replica(1)?;
+//! let plan = plan(&cluster, geometry, leader, geometry.all_present())?;
+//! assert_eq!(plan.answer(), PlanAnswer::Ready { length: 1 });
+//! let image = &cluster[geometry.image_range(leader)];
+//! assert_eq!(payload(image, geometry, leader, 1), Some(&b"metre 1204, wire broken"[..]));
+//! # Ok::<(), ropelog::Refusal>(())
+//! ```
+
+#![warn(missing_docs)]
+
+mod cluster;
+mod exported;
+mod geometry;
+mod image;
+pub mod pieces;
+mod refusal;
+
+pub use cluster::{
+    plan, run, step, Plan, PlanAction, PlanAnswer, ReplicaRow, RunAnswer, StepAnswer, Store,
+    StoreKind,
+};
+pub use geometry::{Epoch, Geometry, Replica, ReplicaSet};
+pub use image::{append, format, has_payload, payload, read, Log, SlotState, Verdict};
+pub use refusal::Refusal;
+
+/// Bytes of a header.
+pub const HEADER_LEN: usize = 28;
+/// Bytes of a record.
+pub const RECORD_LEN: usize = 34;
+/// Bytes of an entry.
+pub const ENTRY_LEN: usize = 240;
+/// The most bytes that a payload has.
+pub const MAX_PAYLOAD: usize = 200;
+/// The most slots that an image has.
+pub const MAX_SLOTS: usize = 64;
+/// The most replicas that a cluster has.
+pub const MAX_REPLICAS: usize = 7;

@@ -1,0 +1,111 @@
+//! Why a call is refused.
+
+use std::error::Error;
+use std::fmt;
+
+use crate::exported::no_such;
+
+/// Why a call is refused, in the order in which the lowest number wins. A refused call has changed
+/// no byte of what it was lent.
+#[derive(Clone, Copy, Debug, PartialEq, Eq, PartialOrd, Ord, Hash)]
+pub enum Refusal {
+    /// 1: m, the number of slots, is not 1 to 64.
+    SlotCount = 1,
+    /// 2: n, the number of replicas, is not 3, 5 or 7, or the replica of an image is not 1 to n.
+    ReplicaCount = 2,
+    /// 3: the buffer of an image, a cluster or a piece has the wrong length.
+    BufferLength = 3,
+    /// 4: the header is not the one that is written for this replica, n and m.
+    Header = 4,
+    /// 5: a used slot stands after a blank record.
+    UsedAfterBlank = 5,
+    /// 6: a bad record stands beside an entry that is not intact.
+    BothLost = 6,
+    /// 7: a used slot's epoch is below an earlier slot's.
+    EpochFalls = 7,
+    /// 8: an append's epoch is 0, or below the last used slot's.
+    AppendEpoch = 8,
+    /// 9: a payload has over 200 bytes.
+    AppendPayload = 9,
+    /// 10: an append finds all slots used.
+    AppendFull = 10,
+    /// 11: the present set has a replica that the cluster does not have.
+    Present = 11,
+    /// 12: the leader is not in the cluster, not present, or its image is refused.
+    Leader = 12,
+    /// 13: a lent result buffer or table has the wrong length. The calls of this crate lend buffers
+    /// of the right length themselves.
+    LentLength = 13,
+    /// 14: the first line of the printing program's input is not well formed. No call of this crate
+    /// has it.
+    CommandLine = 14,
+}
+
+impl Refusal {
+    /// Every refusal, by number.
+    pub const ALL: [Refusal; 14] = [
+        Refusal::SlotCount,
+        Refusal::ReplicaCount,
+        Refusal::BufferLength,
+        Refusal::Header,
+        Refusal::UsedAfterBlank,
+        Refusal::BothLost,
+        Refusal::EpochFalls,
+        Refusal::AppendEpoch,
+        Refusal::AppendPayload,
+        Refusal::AppendFull,
+        Refusal::Present,
+        Refusal::Leader,
+        Refusal::LentLength,
+        Refusal::CommandLine,
+    ];
+
+    /// The number, 1 to 14, by which C and the printing program name it.
+    pub fn number(self) -> u8 {
+        self as u8
+    }
+
+    /// The refusal with this number, if there is one.
+    pub fn from_number(number: u8) -> Option<Refusal> {
+        let at = usize::from(number).checked_sub(1)?;
+        Refusal::ALL.get(at).copied()
+    }
+
+    /// What is wrong, in a few words.
+    fn meaning(self) -> &'static str {
+        match self {
+            Refusal::SlotCount => "the number of slots is not 1 to 64",
+            Refusal::ReplicaCount => {
+                "there are not 3, 5 or 7 replicas, or there is no such replica"
+            }
+            Refusal::BufferLength => "a buffer has the wrong length",
+            Refusal::Header => "the header is not this replica's",
+            Refusal::UsedAfterBlank => "a used slot stands after a blank record",
+            Refusal::BothLost => "the record and the entry of a slot are both lost",
+            Refusal::EpochFalls => "a slot's epoch is below an earlier slot's",
+            Refusal::AppendEpoch => "the epoch is 0 or below the last used slot's",
+            Refusal::AppendPayload => "the payload has over 200 bytes",
+            Refusal::AppendFull => "all slots are used",
+            Refusal::Present => "the present set has a replica that the cluster does not have",
+            Refusal::Leader => "the leader is not in the cluster, not present, or not readable",
+            Refusal::LentLength => "a lent result buffer has the wrong length",
+            Refusal::CommandLine => "the first line of the input is not well formed",
+        }
+    }
+}
+
+impl fmt::Display for Refusal {
+    fn fmt(&self, f: &mut fmt::Formatter<'_>) -> fmt::Result {
+        write!(f, "refused by {}: {}", self.number(), self.meaning())
+    }
+}
+
+impl Error for Refusal {}
+
+/// What a function returned, 0 or a refusal's number.
+pub(crate) fn accepted(function: &str, number: u8) -> Result<(), Refusal> {
+    match number {
+        0 => Ok(()),
+        _ => Err(Refusal::from_number(number).unwrap_or_else(|| no_such(function, number))),
+    }
+}

@@ -1,0 +1,296 @@
+//! The calls about a cluster, refused ones included.
+
+mod common;
+
+use common::{epoch, Cluster};
+use ropelog::{
+    payload, plan, read, run, step, Geometry, Plan, PlanAction, PlanAnswer, Refusal, Replica,
+    ReplicaSet, RunAnswer, StepAnswer, Store, StoreKind, Verdict,
+};
+
+/// Five replicas of four slots, led by 1. Replicas 1 to 4 have slots 1 and 2 in epoch 1; the leader
+/// alone has slot 3 in epoch 2. Replica 5 is fresh.
+fn five() -> Cluster {
+    let mut cluster = Cluster::fresh(5, 4);
+    cluster.append(&[1, 2, 3, 4], 1, b"one");
+    cluster.append(&[1, 2, 3, 4], 1, b"two");
+    cluster.append(&[1], 2, b"tail");
+    cluster
+}
+
+fn planned(cluster: &Cluster, present: ReplicaSet) -> Plan {
+    plan(
+        &cluster.bytes,
+        cluster.geometry,
+        cluster.replica(1),
+        present,
+    )
+    .unwrap()
+}
+
+fn stepped(cluster: &mut Cluster, present: ReplicaSet) -> StepAnswer {
+    let leader = cluster.replica(1);
+    step(&mut cluster.bytes, cluster.geometry, leader, present).unwrap()
+}
+
+fn ran(cluster: &mut Cluster, present: ReplicaSet, budget: u64) -> RunAnswer {
+    let leader = cluster.replica(1);
+    run(
+        &mut cluster.bytes,
+        cluster.geometry,
+        leader,
+        present,
+        budget,
+    )
+    .unwrap()
+}
+
+fn stored(cluster: &Cluster, replica: usize, slot: usize, kind: StoreKind) -> StepAnswer {
+    StepAnswer::Stored(Store {
+        replica: cluster.replica(replica),
+        slot,
+        kind,
+    })
+}
+
+/// Planner, step and run are refused so, and no byte changes.
+fn assert_refused(
+    cluster: &[u8],
+    geometry: Geometry,
+    leader: Replica,
+    present: ReplicaSet,
+    refusal: Refusal,
+) {
+    assert_eq!(plan(cluster, geometry, leader, present), Err(refusal));
+    let mut lent = cluster.to_vec();
+    let answer = step(&mut lent, geometry, leader, present);
+    assert_eq!(answer, Err(refusal));
+    let answer = run(&mut lent, geometry, leader, present, 9);
+    assert_eq!(answer, Err(refusal));
+    assert_eq!(lent, cluster);
+}
+
+#[test]
+fn every_action() {
+    let mut cluster = Cluster::fresh(5, 7);
+    for text in ["one", "two", "three"] {
+        cluster.append(&[1, 2, 3, 4, 5], 1, text.as_bytes());
+    }
+    for text in ["four", "five", "six"] {
+        cluster.append(&[1], 1, text.as_bytes());
+    }
+    cluster.spoil_entry(1, 1);
+    cluster.spoil_entry(2, 1);
+    cluster.spoil_record(1, 2);
+    cluster.spoil_entry(1, 4);
+    let all = cluster.geometry.all_present();
+    let plan = planned(&cluster, all);
+    let expected = [
+        PlanAction::Fetch(cluster.replica(3)),
+        PlanAction::RewriteRecord,
+        PlanAction::Whole,
+        PlanAction::Truncate,
+        PlanAction::TruncatedAfter,
+        PlanAction::TruncatedAfter,
+        PlanAction::Unused,
+    ];
+    assert_eq!(plan.actions(), expected);
+    assert_eq!(plan.action(4), Some(PlanAction::Truncate));
+    assert_eq!((plan.action(0), plan.action(8)), (None, None));
+    assert_eq!(plan.answer(), PlanAnswer::Ready { length: 3 });
+    let two = cluster.set(&[1, 2]);
+    let plan = planned(&cluster, two);
+    assert_eq!(plan.action(1), Some(PlanAction::Wait));
+    assert_eq!(plan.action(4), Some(PlanAction::Wait));
+    assert_eq!(plan.answer(), PlanAnswer::Waiting { slot: 1 });
+}
+
+#[test]
+fn rows() {
+    let mut cluster = five();
+    cluster.spoil_header(3);
+    let plan = planned(&cluster, cluster.set(&[1, 2, 3, 5]));
+    let row = |number| plan.row(cluster.replica(number)).unwrap();
+    assert_eq!(plan.rows().len(), 5);
+    for (number, readable, length, last) in [
+        (1, true, 3, Some(epoch(2))),
+        (2, true, 2, Some(epoch(1))),
+        (3, false, 0, None),
+        (4, false, 0, None),
+        (5, true, 0, None),
+    ] {
+        let found = row(number);
+        assert_eq!(found.readable, readable, "replica {number}");
+        assert_eq!(found.length, length, "replica {number}");
+        assert_eq!(found.last_epoch, last, "replica {number}");
+    }
+    let beyond = Geometry::new(7, 1).unwrap().replica(6).unwrap();
+    assert_eq!(plan.row(beyond), None);
+}
+
+#[test]
+fn steps_in_order() {
+    let mut cluster = five();
+    cluster.spoil_entry(1, 1);
+    cluster.spoil_record(1, 2);
+    cluster.spoil_entry(1, 3);
+    let all = cluster.geometry.all_present();
+    let expected = [
+        (1, 3, StoreKind::BlankRecord),
+        (1, 1, StoreKind::Entry),
+        (1, 2, StoreKind::Record),
+        (5, 1, StoreKind::Entry),
+        (5, 1, StoreKind::Record),
+        (5, 2, StoreKind::Entry),
+        (5, 2, StoreKind::Record),
+    ];
+    for (replica, slot, kind) in expected {
+        let answer = stepped(&mut cluster, all);
+        assert_eq!(answer, stored(&cluster, replica, slot, kind));
+    }
+    let before = cluster.bytes.clone();
+    assert_eq!(stepped(&mut cluster, all), StepAnswer::Recovered);
+    assert_eq!(cluster.bytes, before);
+    for replica in cluster.geometry.replicas() {
+        let image = cluster.image(replica.number());
+        let log = read(image, cluster.geometry, replica).unwrap();
+        assert_eq!(log.length(), 2);
+        assert_eq!(log.slot(1).unwrap().verdict, Verdict::Intact);
+        let found = payload(image, cluster.geometry, replica, 2);
+        assert_eq!(found, Some(&b"two"[..]));
+    }
+}
+
+#[test]
+fn budgets() {
+    let mut cluster = five();
+    cluster.spoil_entry(1, 3);
+    let all = cluster.geometry.all_present();
+    // One record blanked, and two slots of replica 5.
+    let before = cluster.bytes.clone();
+    assert_eq!(ran(&mut cluster, all, 0), RunAnswer::Spent { stores: 0 });
+    assert_eq!(cluster.bytes, before);
+    assert_eq!(ran(&mut cluster, all, 2), RunAnswer::Spent { stores: 2 });
+    assert_ne!(cluster.bytes, before);
+    assert_eq!(
+        ran(&mut cluster, all, 3),
+        RunAnswer::Recovered { stores: 3 }
+    );
+    assert_eq!(
+        ran(&mut cluster, all, 0),
+        RunAnswer::Recovered { stores: 0 }
+    );
+    let mut at_once = five();
+    at_once.spoil_entry(1, 3);
+    let enough = at_once.geometry.enough_stores();
+    assert_eq!(
+        ran(&mut at_once, all, enough),
+        RunAnswer::Recovered { stores: 5 }
+    );
+    assert_eq!(at_once.bytes, cluster.bytes);
+}
+
+#[test]
+fn waiting_writes_nothing() {
+    let mut cluster = five();
+    cluster.spoil_entry(1, 2);
+    cluster.spoil_entry(1, 3);
+    let present = cluster.set(&[1, 5]);
+    let before = cluster.bytes.clone();
+    assert_eq!(
+        planned(&cluster, present).answer(),
+        PlanAnswer::Waiting { slot: 2 }
+    );
+    assert_eq!(
+        stepped(&mut cluster, present),
+        StepAnswer::Waiting { slot: 2 }
+    );
+    assert_eq!(
+        ran(&mut cluster, present, u64::MAX),
+        RunAnswer::Waiting { slot: 2 }
+    );
+    assert_eq!(cluster.bytes, before);
+}
+
+#[test]
+fn away_and_unreadable_replicas_keep_their_bytes() {
+    let mut cluster = five();
+    cluster.spoil_entry(1, 1);
+    cluster.spoil_entry(2, 1);
+    cluster.spoil_entry(3, 1);
+    cluster.spoil_header(3);
+    let before = cluster.bytes.clone();
+    let present = cluster.set(&[1, 3, 4, 5]);
+    // The leader fetches slot 1, replica 4 gets slot 3, and replica 5 all three.
+    let answer = ran(&mut cluster, present, 100);
+    assert_eq!(answer, RunAnswer::Recovered { stores: 1 + 2 + 6 });
+    for number in [2, 3] {
+        let range = cluster.geometry.image_range(cluster.replica(number));
+        assert_eq!(cluster.image(number), &before[range], "replica {number}");
+    }
+}
+
+#[test]
+fn refused_buffers() {
+    let cluster = five();
+    let (geometry, leader) = (cluster.geometry, cluster.replica(1));
+    let all = geometry.all_present();
+    let mut longer = cluster.bytes.clone();
+    longer.push(b' ');
+    for bytes in [&[][..], &cluster.bytes[1..], &longer] {
+        assert_refused(bytes, geometry, leader, all, Refusal::BufferLength);
+    }
+    let other = Geometry::new(5, 3).unwrap();
+    assert_refused(&cluster.bytes, other, leader, all, Refusal::BufferLength);
+}
+
+#[test]
+fn refused_sets_and_leaders() {
+    let cluster = five();
+    let (geometry, leader) = (cluster.geometry, cluster.replica(1));
+    let all = geometry.all_present();
+    let seven = Geometry::new(7, 4).unwrap();
+    let beyond = seven.replica(7).unwrap();
+    assert_refused(
+        &cluster.bytes,
+        geometry,
+        leader,
+        seven.all_present(),
+        Refusal::Present,
+    );
+    assert_refused(
+        &cluster.bytes,
+        geometry,
+        beyond,
+        all.with(beyond),
+        Refusal::Present,
+    );
+    assert_refused(&cluster.bytes, geometry, beyond, all, Refusal::Leader);
+    for present in [ReplicaSet::EMPTY, all.without(leader)] {
+        assert_refused(&cluster.bytes, geometry, leader, present, Refusal::Leader);
+    }
+}
+
+#[test]
+fn refused_images_of_the_leader() {
+    let spoilt: [fn(&mut Cluster); 3] = [
+        |cluster| cluster.spoil_header(1),
+        |cluster| cluster.blank_record(1, 1),
+        |cluster| {
+            cluster.spoil_entry(1, 2);
+            cluster.spoil_record(1, 2);
+        },
+    ];
+    for spoil in spoilt {
+        let mut cluster = five();
+        spoil(&mut cluster);
+        let (geometry, leader) = (cluster.geometry, cluster.replica(1));
+        assert_refused(
+            &cluster.bytes,
+            geometry,
+            leader,
+            geometry.all_present(),
+            Refusal::Leader,
+        );
+    }
+}

@@ -1,0 +1,85 @@
+//! The pieces of an image.
+
+use ropelog::pieces::{
+    checksum, is_header, judge_entry, judge_record, payload_range, read_column, write_blank_record,
+    write_entry, write_fresh_entry, write_header, write_number, write_record, Column, Entry,
+    Record,
+};
+use ropelog::{Refusal, ENTRY_LEN, HEADER_LEN, RECORD_LEN};
+
+#[test]
+fn checksums() {
+    assert_eq!(checksum(b""), 1);
+    assert_eq!(checksum(b"A"), 4_325_442);
+}
+
+#[test]
+fn columns() {
+    let mut column = [b'#'; 5];
+    for (number, text) in [(0, b"    0"), (42, b"   42"), (1_234_567, b"34567")] {
+        write_number(&mut column, number);
+        assert_eq!(&column, text);
+    }
+    assert_eq!(read_column(b"   42"), Ok(Column::Number(42)));
+    assert_eq!(read_column(b"    "), Ok(Column::Blank));
+    for text in [&b"  042"[..], b"42   ", b" -42 ", b"4 2", b"x"] {
+        assert_eq!(read_column(text), Ok(Column::Malformed));
+    }
+    assert_eq!(
+        read_column(b"9999999999999999999"),
+        Ok(Column::Number(9_999_999_999_999_999_999))
+    );
+    assert_eq!(
+        read_column(b"                   1"),
+        Err(Refusal::BufferLength)
+    );
+}
+
+#[test]
+fn headers() {
+    let mut header = [b'#'; HEADER_LEN];
+    write_header(&mut header, 2, 5, 64);
+    assert_eq!(&header[..16], b"rope  1  2  5 64");
+    assert_eq!(header[27], b'\n');
+    assert!(is_header(&header, 2, 5, 64));
+    assert!(!is_header(&header, 3, 5, 64));
+    assert!(!is_header(&header[..27], 2, 5, 64));
+    header[27] = b' ';
+    assert!(!is_header(&header, 2, 5, 64));
+}
+
+#[test]
+fn records() {
+    let mut record = [b'#'; RECORD_LEN];
+    assert_eq!(judge_record(&record, 1), Record::Bad);
+    write_record(&mut record, 1, 1);
+    assert_eq!(&record, b"          1          1  546505443\n");
+    assert_eq!(judge_record(&record, 1), Record::Good { epoch: 1 });
+    assert_eq!(judge_record(&record, 2), Record::Bad);
+    write_blank_record(&mut record);
+    assert_eq!(&record[..33], [b' '; 33]);
+    assert_eq!(judge_record(&record, 1), Record::Blank);
+}
+
+#[test]
+fn entries() {
+    let mut entry = [b'#'; ENTRY_LEN];
+    assert_eq!(judge_entry(&entry, 4), Entry::Broken);
+    write_entry(&mut entry, 9, 4, b"wire").unwrap();
+    assert_eq!(judge_entry(&entry, 4), Entry::Intact { epoch: 9, size: 4 });
+    assert_eq!(&entry[payload_range(4)], b"wire");
+    assert_eq!(judge_entry(&entry, 5), Entry::Broken);
+    let before = entry;
+    let long = write_entry(&mut entry, 9, 4, &[b'x'; 201]);
+    assert_eq!(long, Err(Refusal::AppendPayload));
+    assert_eq!(entry, before);
+    write_entry(&mut entry, u32::MAX, 4, &[b'x'; 200]).unwrap();
+    let intact = Entry::Intact {
+        epoch: u32::MAX,
+        size: 200,
+    };
+    assert_eq!(judge_entry(&entry, 4), intact);
+    write_fresh_entry(&mut entry);
+    assert_eq!(entry, [b' '; ENTRY_LEN]);
+    assert_eq!(judge_entry(&entry, 4), Entry::Broken);
+}
