@@ -5,7 +5,7 @@
 //! record says that its slot is used, and in which *epoch*; an entry holds the *payload*. Slots and
 //! replicas are numbered from 1.
 //!
-//! [`format`], [`append`], [`read`], [`payload`] and [`has_payload`] are about one image; [`plan`],
+//! [`format()`], [`append`], [`read`], [`payload`] and [`has_payload`] are about one image; [`plan`],
 //! [`step`] and [`run`] about a cluster, which is one buffer with all images end to end.
 //!
 //! A call that is refused ([`Refusal`]) has changed nothing. The functions behind the calls are
