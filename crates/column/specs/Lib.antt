@@ -2,3 +2,4 @@
 pub mod Column
 pub mod Digit
 pub mod ColumnState
+pub mod Claims

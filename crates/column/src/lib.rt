@@ -5,6 +5,7 @@ ghost use lib.ListN.{length};
 ghost use Rattle.slices.specs.Same.{same};
 ghost use Rattle.column.specs.Column.{column, digitStep, valueOf};
 ghost use Rattle.column.specs.Digit.{highByte, lastByte};
+ghost use Rattle.column.specs.Claims.{Exact};
 ghost use Rattle.column.specs.ColumnState.{columnState};
 
 // What stands in a column: a number as it is written, nothing, or anything else.
@@ -114,3 +115,8 @@ pub fn read_column(s: &[u8]) -> ColumnState
     }
     ColumnState::Malformed
 }
+
+// The reader says exactly what document 01 says, and reads back what was written.
+pub fn exact_claim()
+    ensures { λ _. ⌜ Exact ⌝ }
+{}
