@@ -1,7 +1,7 @@
 -- One step, and the end, of each loop of this crate.
 use Prim.Native.Nat.{ℕ, zero, suc, _+_, _*_, _-_, _/_, _%_, _^_, _<_, _≤_}
 use mathlib.Core.Path.{_≡_, refl, sym, _∙_, ap, ap₂}
-use mathlib.Core.Bool.{Bool, true, false, _&&_}
+use mathlib.Core.Bool.{Bool, true, false}
 use mathlib.Core.List.{[], _∷_, _++_, append-assoc}
 use native.Mathlib.Omega.{arith}
 use native.Mathlib.Numerals.{add-one}
@@ -12,7 +12,7 @@ use lib.Dec.{eqb}
 use borrow.Author.Tests.{eq-eqb, ne-eqb, le-leb, lt-leb}
 use Rattle.slices.specs.Parts.{Bytes}
 use Rattle.slices.specs.Same.{same}
-use Rattle.slices.proofs.SameLaws.{and-off, same-append, same-eq}
+use Rattle.slices.proofs.SameLaws.{and-off, same-append, same-eq, and-on}
 use Rattle.column.specs.Column.{digits, column, digitStep, valueFrom}
 use Rattle.column.specs.Digit.{lastByte, highByte}
 use Rattle.column.proofs.ColumnLaws.{digits-suc, column-suc, length-digits}
@@ -66,10 +66,6 @@ same-one : (x y : ℕ) (t : Bool) → eqb x y ≡ t → same (x ∷ []) (y ∷ [
 unfolding same
 same-one x y true e = rw e
 same-one x y false e = rw e
-
-and-on : (t : Bool) → t && true ≡ t
-and-on true = refl
-and-on false = refl
 
 -- the last byte of two lists as long
 same-snoc : (xs ys : Bytes) (x y : ℕ) → length xs ≡ length ys → x ≡ y → same (xs ++ (x ∷ [])) (ys ++ (y ∷ [])) ≡ same xs ys

@@ -17,7 +17,7 @@ use Rattle.protocol.specs.Recovery.{next, ifReady, steps}
 use Rattle.protocol.specs.StepBytes.{nextIn, stepsBytes, storesBytes}
 use Rattle.demand3.specs.CallList.{Request, CallList, finished, refused, made}
 use Rattle.protocol.specs.Call.{Numbers, named, refusalIn}
-use Rattle.protocol.proofs.Measure.{work-bound}
+use Rattle.protocol.proofs.Work.{work-bound}
 use Rattle.protocol.proofs.Reach.{here, reach-on}
 use Rattle.protocol.proofs.Runs.{enough, reach-steps, finishes, stores-bound, spent-all, steps-stores, unspent}
 use Rattle.protocol.proofs.Always.{Always, always}

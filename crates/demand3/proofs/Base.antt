@@ -7,7 +7,8 @@ use native.Mathlib.Decide.{decLt}
 use lib.Dec.{eqb, ltb}
 use borrow.Author.Tests.{ltb-true, eqb-true, lt-ltb, eq-eqb}
 use Rattle.search.specs.Search.{lowest, count, oneIf}
-use Rattle.search.proofs.SearchLaws.{sum-le, lowest-is, lowest-le, lowest-passes, below-lowest, lowest-le-passing, count-none}
+use Rattle.search.proofs.SearchLaws.{lowest-is, lowest-le, lowest-passes, below-lowest, lowest-le-passing}
+use Rattle.search.proofs.CountLaws.{sum-le, count-none}
 use Rattle.slices.specs.Parts.{Bytes}
 use Rattle.slices.specs.Same.{same}
 use Rattle.slices.proofs.SameLaws.{and-left, and-right, same-true}

@@ -6,6 +6,10 @@ pub mod CallLaws
 pub mod Committed
 pub mod PartA
 pub mod PartB
+pub mod StepCountLaws
+pub mod ResultLaws
+pub mod UncutLaws
+pub mod StillLaws
 pub mod RunLaws
 pub mod LeftLaws
 pub mod ExampleCalls

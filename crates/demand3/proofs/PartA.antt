@@ -17,7 +17,9 @@ use Rattle.demand3.specs.Claim.{PartA}
 use Rattle.demand3.proofs.CallLaws.{Standing, isRefused, isWaiting, isReady, standing, accepted, readable-view, run-bytes}
 use Rattle.demand3.proofs.AfterCalls.{After, unchanged}
 use Rattle.demand3.proofs.AfterCalls as calls
-use Rattle.demand3.proofs.RunLaws.{unspent-none, Still, still-refused, still-waiting, Quiet, refused-quiet, waiting-quiet, ready-run, ready-plan, runs}
+use Rattle.demand3.proofs.ResultLaws.{unspent-none}
+use Rattle.demand3.proofs.StillLaws.{Still, still-refused, still-waiting, Quiet, refused-quiet, waiting-quiet}
+use Rattle.demand3.proofs.RunLaws.{ready-run, ready-plan, runs}
 
 same-still : (N : Numbers) (b : Bytes) (r : Result) → Still N b r → Quiet r → PartA N b b
 same-still N b r s q = record {

@@ -30,7 +30,9 @@ use Rattle.protocol.proofs.StepLaws.{steps-mean}
 use Rattle.demand3.proofs.CallLaws.{accepted, planning-refused, planning-result, readable-view, run-bytes}
 use Rattle.demand3.proofs.AfterCalls.{After, calls-reach, unchanged}
 use Rattle.demand3.proofs.AfterCalls as calls
-use Rattle.demand3.proofs.RunLaws.{still-waiting, ready-plan, ready-step, says-ready, says-recovered}
+use Rattle.demand3.proofs.ResultLaws.{says-ready, says-recovered}
+use Rattle.demand3.proofs.StillLaws.{still-waiting}
+use Rattle.demand3.proofs.RunLaws.{ready-plan, ready-step}
 use Rattle.demand3.proofs.PartA.{none-left}
 
 -- what an entry's bytes mean in the cluster

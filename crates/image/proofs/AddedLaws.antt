@@ -5,7 +5,7 @@ use mathlib.Core.Bool.{Bool, true, false, cond, not, _&&_}
 use native.Mathlib.Omega.{arith}
 use lib.Dec.{eqb}
 use borrow.Author.Tests.{eq-eqb, ne-eqb}
-use Rattle.search.proofs.SearchLaws.{put-same, put-other}
+use Rattle.search.proofs.UpdateLaws.{put-same, put-other}
 use Rattle.slices.specs.Parts.{Bytes}
 use Rattle.record.specs.Meaning.{good, blank, intact}
 use Rattle.image.specs.Image.{Image, setRecord, setEntry}
@@ -18,7 +18,7 @@ use Rattle.image.proofs.VerdictLaws.{verdict-whole, verdict-unused}
 unfoldable pub added : Image → ℕ → ℕ → Bytes → Image
 added i l e p = setRecord (setEntry i l (intact e p)) l (good e)
 
-whole-beside : (e : ℕ) (p : Bytes) → condition (good e) (intact e p) ≡ Whole
+pub whole-beside : (e : ℕ) (p : Bytes) → condition (good e) (intact e p) ≡ Whole
 unfolding condition
 whole-beside e p = rw (eq-eqb e e refl)
 

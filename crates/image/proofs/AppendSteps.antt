@@ -26,7 +26,7 @@ use Rattle.image.specs.Answers.{formatAnswer, appendAnswer}
 use Rattle.image.proofs.RefusalLaws.{else-next, else-first}
 use Rattle.image.proofs.CallLaws.{slots-high, called-slots, called-size}
 use Rattle.image.proofs.ViewLaws.{length-le}
-use Rattle.image.proofs.ScanLaws.{taken-at}
+use Rattle.image.proofs.ScannedLaws.{taken-at}
 use Rattle.image.proofs.DecodeLaws.{size-is, record-fits, entry-fits}
 use Rattle.image.proofs.AcceptLaws.{accepts-elim}
 use Rattle.image.proofs.FreshLaws.{length-records, length-entries, length-fresh-image}

@@ -6,7 +6,7 @@ use native.Mathlib.Nat.{mul-le-mul-left}
 use native.Mathlib.Decide.{ℕ-discrete, decLt}
 use lib.ListN.{length}
 use Rattle.search.specs.Search.{put}
-use Rattle.search.proofs.SearchLaws.{put-same, put-other}
+use Rattle.search.proofs.UpdateLaws.{put-same, put-other}
 use Rattle.slices.specs.Parts.{Bytes, part, spliced}
 use Rattle.slices.proofs.PartLaws.{length-part, part-part}
 use Rattle.slices.proofs.SpliceLaws.{length-spliced, spliced-before, spliced-behind}

@@ -10,7 +10,7 @@ use lib.Dec.{ltb}
 use lib.ListN.{length}
 use borrow.Author.Tests.{lt-ltb, ltb-true}
 use Rattle.search.specs.Search.{put}
-use Rattle.search.proofs.SearchLaws.{put-same, put-other}
+use Rattle.search.proofs.UpdateLaws.{put-same, put-other}
 use Rattle.slices.specs.Parts.{Bytes, part, spliced}
 use Rattle.slices.proofs.SpliceLaws.{spliced-here, spliced-before, spliced-behind, spliced-other}
 use Rattle.record.specs.Meaning.{blank, broken, readHeader, readRecord, readEntry}

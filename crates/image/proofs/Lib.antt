@@ -3,12 +3,14 @@ pub mod RefusalLaws
 pub mod CallLaws
 pub mod ViewLaws
 pub mod ScanLaws
+pub mod ScannedLaws
 pub mod SlotLaws
 pub mod SeenLaws
 pub mod StoreLaws
 pub mod VerdictLaws
 pub mod VerdictSteps
 pub mod ReadLaws
+pub mod PayloadLaws
 pub mod DecodeLaws
 pub mod ClusterLaws
 pub mod EncodeLaws

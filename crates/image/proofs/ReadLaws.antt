@@ -1,37 +1,27 @@
--- The answers of reading and of asking for a payload, case by case.
-use Prim.Native.Nat.{ℕ, suc, _+_, _-_, _*_, _≤_, _<_}
-use mathlib.Core.Path.{_≡_, refl, sym, ap, _∙_}
-use mathlib.Core.Bool.{Bool, true, false, cond, not, _&&_, _||_}
+-- The answers of reading, case by case.
+use Prim.Native.Nat.{ℕ, _<_}
+use mathlib.Core.Path.{_≡_, sym, _∙_}
+use mathlib.Core.Bool.{Bool, true, false, cond, not, _&&_}
 use mathlib.Core.List.{List}
-use native.Mathlib.Omega.{arith}
-use lib.Dec.{eqb, leb}
-use lib.ListN.{length, take, getD}
-use borrow.Author.Tests.{eq-eqb, ne-eqb, le-leb, lt-leb, leb-true, not-true}
+use lib.Dec.{eqb}
+use lib.ListN.{length, getD}
+use borrow.Author.Tests.{eq-eqb, ne-eqb}
 use Rattle.search.specs.Search.{listed}
 use Rattle.search.proofs.ListedLaws.{listed-cong}
-use Rattle.slices.specs.Parts.{Bytes, part}
-use Rattle.slices.proofs.SameLaws.{and-left, and-right, and-off, clash}
-use Rattle.slices.proofs.PartLaws.{part-part}
-use Rattle.record.specs.Meaning.{Record, good, blank, bad, Entry, intact, broken, readEntry, entryPayload}
-use Rattle.record.specs.Exactly.{IntactFor}
-use Rattle.record.specs.Judged.{entryAnswer}
-use Rattle.record.specs.declared.EntryState.{EntryState}
-use Rattle.record.specs.declared.EntryState.the-variants.{Intact, Broken}
-use Rattle.record.proofs.EntryLaws.{intact-for, intact-payload, intact-part}
+use Rattle.slices.specs.Parts.{Bytes}
+use Rattle.slices.proofs.SameLaws.{and-off}
 use Rattle.image.specs.declared.ReadAnswer.the-variants as read
-use Rattle.image.specs.declared.PayloadAnswer.the-variants as payload
 use Rattle.image.specs.Refusal.{refuse}
-use Rattle.image.specs.Image.{Image, imageSize, entryAt, decodeImage}
-use Rattle.image.specs.View.{Condition, Unused, Whole, RecordLost, Faulty, Lost, condition, conditionAt, epochAt, isSlots, callRefusal, imageRefusal, readRefusal}
-use Rattle.image.specs.Seen.{Seen, conditionNumber, conditionsOf}
+use Rattle.image.specs.Image.{Image, imageSize, decodeImage}
+use Rattle.image.specs.View.{epochAt, isSlots, callRefusal, imageRefusal, readRefusal}
+use Rattle.image.specs.Seen.{Seen}
 use Rattle.image.specs.Verdict.{isFresh}
-use Rattle.image.specs.Scan.{Marked, SpanIn}
-use Rattle.image.specs.Read.{lentRefusal, epochsOf, verdictsOf, isWhole, hasPayload, payloadOf, payloadAt}
-use Rattle.image.specs.Answers.{readAnswer, payloadAnswer}
+use Rattle.image.specs.Scan.{Marked}
+use Rattle.image.specs.Read.{lentRefusal, epochsOf, verdictsOf}
+use Rattle.image.specs.Answers.{readAnswer}
 use Rattle.image.proofs.RefusalLaws.{else-first, else-next, else-zero-l, refuse-on, refuse-off}
 use Rattle.image.proofs.CallLaws.{called-slots, called-size}
-use Rattle.image.proofs.DecodeLaws.{entry-there, entry-fits}
-use Rattle.image.proofs.ScanLaws.{taken-at}
+use Rattle.image.proofs.ScannedLaws.{taken-at}
 
 -- ---- refusals 1 to 7
 
@@ -101,130 +91,3 @@ module _ (m : ℕ) (i : Image) (used : ℕ) (cs es : List ℕ) (s : Seen m i use
   pub seen-epochs : (l : ℕ) {es′ : List ℕ} → l ≡ m → es′ ≡ listed l (λ k. getD es k 0) → es′ ≡ epochsOf m i
   unfolding epochsOf
   seen-epochs l h e = e ∙ rw h (listed-cong m (λ k. getD es k 0) (epochAt i) (taken-at m (epochAt i) es (s .epochs-are)))
-
--- ---- whether there is a payload
-
-whole-number : (a : Condition) → isWhole a ≡ (eqb (conditionNumber a) 1 || eqb (conditionNumber a) 2)
-unfolding isWhole
-whole-number Unused = refl
-whole-number Whole = refl
-whole-number RecordLost = refl
-whole-number Faulty = refl
-whole-number Lost = refl
-
-module _ (m slot : ℕ) (cs : List ℕ) where
-  pub whole-low : slot < 1 → (i : Image) → take m cs ≡ conditionsOf m i → false ≡ hasPayload m i slot
-  unfolding hasPayload
-  whole-low h i e = sym (rw (lt-leb 1 slot h))
-
-  pub whole-high : m < slot → (i : Image) → take m cs ≡ conditionsOf m i → false ≡ hasPayload m i slot
-  unfolding hasPayload
-  whole-high h i e = sym (rw (lt-leb slot m h) (simp and-off))
-
-  module _ (lo : 1 ≤ slot) (hi : slot ≤ m) where
-    whole-at : (i : Image) → take m cs ≡ conditionsOf m i → hasPayload m i slot ≡ (eqb (getD cs (slot - 1) 0) 1 || eqb (getD cs (slot - 1) 0) 2)
-    unfolding hasPayload conditionsOf
-    whole-at i e =
-        rw (le-leb 1 slot lo, le-leb slot m hi)
-        (whole-number (conditionAt i (slot - 1))
-        ∙ rw (taken-at m (λ k. conditionNumber (conditionAt i k)) cs e (slot - 1) (omega arith)))
-
-    pub whole-first : getD cs (slot - 1) 0 ≡ 1 → (i : Image) → take m cs ≡ conditionsOf m i → true ≡ hasPayload m i slot
-    whole-first h i e = sym (whole-at i e ∙ rw (eq-eqb (getD cs (slot - 1) 0) 1 h))
-
-    pub whole-second : ¬ (getD cs (slot - 1) 0 ≡ 1) → (i : Image) → take m cs ≡ conditionsOf m i → eqb (getD cs (slot - 1) 0) 2 ≡ hasPayload m i slot
-    whole-second h i e = sym (whole-at i e ∙ rw (ne-eqb (getD cs (slot - 1) 0) 1 h))
-
-module _ (m slot : ℕ) (i : Image) (h : hasPayload m i slot ≡ true) where
-  within : leb 1 slot && leb slot m ≡ true
-  unfolding hasPayload
-  within = and-left (leb 1 slot && leb slot m) (isWhole (conditionAt i (slot - 1))) h
-
-  pub has-low : 1 ≤ slot
-  has-low = leb-true 1 slot (and-left (leb 1 slot) (leb slot m) within)
-
-  pub has-below : slot - 1 < m
-  has-below = omega (arith, has-low, leb-true slot m (and-right (leb 1 slot) (leb slot m) within))
-
-  pub has-whole : isWhole (conditionAt i (slot - 1)) ≡ true
-  unfolding hasPayload
-  has-whole = and-right (leb 1 slot && leb slot m) (isWhole (conditionAt i (slot - 1))) h
-
-pub payload-refused : (r q : ℕ) (has : Bool) → r ≡ q → ¬ (r ≡ 0) → payload.Refused r ≡ payloadAnswer q has
-unfolding payloadAnswer
-payload-refused r q has e h = sym (rw (← e, ne-eqb r 0 h))
-
-module _ (r q : ℕ) (t has : Bool) (e : r ≡ q) (h : r ≡ 0) (s : t ≡ has) where
-  pub payload-present : t ≡ true → payload.Present ≡ payloadAnswer q has
-  unfolding payloadAnswer
-  payload-present u = sym (rw (← e, h, ← s, u))
-
-  pub payload-absent : t ≡ false → payload.Absent ≡ payloadAnswer q has
-  unfolding payloadAnswer
-  payload-absent u = sym (rw (← e, h, ← s, u))
-
--- ---- where a payload stands
-
--- a whole slot's entry is intact
-whole-intact : (r : Record) (x : Entry) → isWhole (condition r x) ≡ true → entryAnswer x ≡ Broken → ⊥
-unfolding isWhole condition entryAnswer
-whole-intact r (intact e p) h q = let z : _≡_ {A = ℕ} 0 1 = cc in omega arith
-whole-intact (good e) (broken b) h q = clash h refl
-whole-intact blank (broken b) h q = clash h refl
-whole-intact (bad d) (broken b) h q = clash h refl
-
--- an intact entry as the judge answers it
-intact-found : (k : ℕ) (s : Bytes) (e l : ℕ) → Intact e l ≡ entryAnswer (readEntry k s) → (l ≤ 200) × (entryPayload s ≡ part s 26 l)
-unfolding entryAnswer
-intact-found k s e l h = go (readEntry k s) refl h
-  where
-    go : (x : Entry) → readEntry k s ≡ x → Intact e l ≡ entryAnswer x → (l ≤ 200) × (entryPayload s ≡ part s 26 l)
-    go (intact f p) q g =
-        let i : IntactFor k f p s = intact-for k s f p q in
-        let z : l ≡ length p = cc in
-        (omega (arith, i .short), intact-payload k f p s i ∙ sym (rw z (intact-part k f p s i)))
-    go (broken z) q g = absurd (let y : _≡_ {A = ℕ} 0 1 = cc in omega arith)
-
-module _ (m : ℕ) (b : Bytes) (k : ℕ) (h : k < m) (a : EntryState) (there : (c n : ℕ) → a ≡ entryAnswer (decodeImage c n m b .entries k)) where
-  pub span-none : a ≡ Broken → (c n : ℕ) → isWhole (conditionAt (decodeImage c n m b) k) ≡ true
-      → (part b 0 (0 - 0) ≡ entryPayload (part b (entryAt m k) 240)) × (0 ≡ entryAt m k + 26)
-  unfolding conditionAt
-  span-none q c n w = absurd (whole-intact (decodeImage c n m b .records k) (decodeImage c n m b .entries k) w (sym (there c n) ∙ q))
-
-  module _ {e l : ℕ} (q : a ≡ Intact e l) where
-    found : (l ≤ 200) × (entryPayload (part b (entryAt m k) 240) ≡ part (part b (entryAt m k) 240) 26 l)
-    found = intact-found (suc k) (part b (entryAt m k) 240) e l (sym q ∙ there 0 0 ∙ ap entryAnswer (entry-there 0 0 m b k h))
-
-    pub span-short : l ≤ 200
-    span-short = found .0
-
-    pub span-fits : length b ≡ imageSize m → 28 + 34 * m + 240 * k + 26 + l ≤ length b
-    unfolding entryAt
-    span-fits size = omega (arith, entry-fits m k h, span-short)
-
-    pub span-there :
-        (part b (28 + 34 * m + 240 * k + 26) (28 + 34 * m + 240 * k + 26 + l - (28 + 34 * m + 240 * k + 26)) ≡ entryPayload (part b (entryAt m k) 240))
-        × (28 + 34 * m + 240 * k + 26 ≡ entryAt m k + 26)
-    unfolding entryAt
-    span-there =
-        let z : 28 + 34 * m + 240 * k + 26 + l - (28 + 34 * m + 240 * k + 26) ≡ l = omega arith in
-        (rw z (sym (found .1 ∙ part-part b (28 + 34 * m + 240 * k) 240 26 l (omega (arith, span-short)))), refl)
-
-pub span-empty : (size : ℕ) → SpanIn size 0 0
-span-empty size = record { ordered = omega arith; within = omega arith }
-
-module _ (c n m : ℕ) (b : Bytes) (slot r : ℕ) (e : r ≡ readRefusal c n m b) where
-  pub no-payload-refused : ¬ (r ≡ 0) → (part b 0 (0 - 0) ≡ payloadOf c n m b slot) × (0 ≡ payloadAt c n m b slot)
-  unfolding payloadOf payloadAt part
-  no-payload-refused h = (sym (rw (← e, ne-eqb r 0 h)), sym (rw (← e, ne-eqb r 0 h)))
-
-  pub no-payload : (t : Bool) → t ≡ hasPayload m (decodeImage c n m b) slot → not t ≡ true
-      → (part b 0 (0 - 0) ≡ payloadOf c n m b slot) × (0 ≡ payloadAt c n m b slot)
-  unfolding payloadOf payloadAt part
-  no-payload t s u = (sym (rw (← s, not-true t u, and-off (eqb (readRefusal c n m b) 0))), sym (rw (← s, not-true t u, and-off (eqb (readRefusal c n m b) 0))))
-
-  pub payload-there : r ≡ 0 → hasPayload m (decodeImage c n m b) slot ≡ true → (p : Bytes) {a : ℕ}
-      → (p ≡ entryPayload (part b (entryAt m (slot - 1)) 240)) × (a ≡ entryAt m (slot - 1) + 26)
-      → (p ≡ payloadOf c n m b slot) × (a ≡ payloadAt c n m b slot)
-  unfolding payloadOf payloadAt
-  payload-there h s p (q, z) = (q ∙ sym (rw (← e, h, s)), z ∙ sym (rw (← e, h, s)))

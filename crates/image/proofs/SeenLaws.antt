@@ -14,7 +14,7 @@ use Rattle.image.specs.Image.{Image, decodeImage}
 use Rattle.image.specs.View.{isProper, imageRefusal}
 use Rattle.image.specs.Seen.{Seen}
 use Rattle.image.specs.Scan.{Scanned, lengthIn, scanRefusal}
-use Rattle.image.proofs.ScanLaws.{length-scanned, refusal-scanned}
+use Rattle.image.proofs.ScannedLaws.{length-scanned, refusal-scanned}
 
 module _ (c n m : ℕ) (b : Bytes) (r : Bool) (e : r ≡ same (take 28 b) (headerBytes c n m)) where
   headed : isProper (decodeImage c n m b .header) ≡ r

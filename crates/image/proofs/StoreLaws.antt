@@ -5,7 +5,8 @@ use mathlib.Core.Bool.{Bool, false, true≢false}
 use native.Mathlib.Omega.{arith}
 use native.Mathlib.Decide.{ℕ-discrete}
 use Rattle.search.specs.Search.{lowest, put}
-use Rattle.search.proofs.SearchLaws.{lowest-is, put-same, put-other, put-case}
+use Rattle.search.proofs.SearchLaws.{lowest-is}
+use Rattle.search.proofs.UpdateLaws.{put-same, put-other, put-case}
 use Rattle.record.specs.Meaning.{Record, good, blank, Entry}
 use Rattle.image.specs.Image.{Image, setRecord, setEntry}
 use Rattle.image.specs.View.{condition, epochOf, isBlank, isLost, conditionAt, epochAt, logLength}

@@ -23,7 +23,7 @@ use Rattle.image.specs.Verdict.{isFresh, verdictOf, verdictAt}
 use Rattle.image.specs.Scan.{Marked}
 use Rattle.image.specs.Read.{verdictsOf}
 use Rattle.image.proofs.DecodeLaws.{entry-there, entry-fits}
-use Rattle.image.proofs.ScanLaws.{taken-at}
+use Rattle.image.proofs.ScannedLaws.{taken-at}
 use Rattle.image.proofs.SlotLaws.{list-more, list-end}
 
 -- ---- conditions by number

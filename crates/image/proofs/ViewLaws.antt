@@ -7,7 +7,8 @@ use native.Mathlib.Decide.{decLt}
 use lib.Dec.{eqb, leb, ltb}
 use borrow.Author.Tests.{eqb-true, eq-eqb, ne-eqb, leb-true, lt-ltb, le-ltb, le-leb, not-true, not-false}
 use Rattle.search.specs.Search.{count}
-use Rattle.search.proofs.SearchLaws.{lowest-le, lowest-passes, below-lowest, all-elim, all-intro, count-below}
+use Rattle.search.proofs.SearchLaws.{lowest-le, lowest-passes, below-lowest, all-elim, all-intro}
+use Rattle.search.proofs.CountLaws.{count-below}
 use Rattle.slices.proofs.SameLaws.{and-left, and-right}
 use Rattle.record.specs.Meaning.{Record, good, blank, bad}
 use Rattle.image.specs.Refusal.{refuse, _else_}

@@ -1,83 +1,26 @@
--- The refusals of planning, step and run, stage by stage.
-use Prim.Native.Nat.{ℕ, zero, suc, pred, _+_, _*_, _-_, _/_, _^_, _<_, _≤_}
+-- Refusal 12, and all refusals of planning, step and run that come before what is lent.
+use Prim.Native.Nat.{ℕ, zero, suc, pred, _-_, _<_, _≤_}
 use mathlib.Core.Path.{_≡_, refl, sym, _∙_, ap}
 use mathlib.Core.Bool.{Bool, true, false, not, _&&_}
 use mathlib.Core.List.{List}
 use native.Mathlib.Omega.{arith}
-use native.Mathlib.Nat.{mul-le-mul, div-eq-of-lt, div-lt-iff-lt-mul, one-mul}
-use lib.Pow.{pow-pos}
-use lib.Dec.{eqb, leb, ltb}
+use lib.Dec.{leb}
 use lib.ListN.{length, getD}
-use borrow.Author.Tests.{ltb-true, lt-ltb, eq-eqb, ne-eqb, eqb-true, leb-true, not-false}
+use borrow.Author.Tests.{leb-true, not-false}
 use Rattle.slices.specs.Parts.{Bytes}
 use Rattle.slices.proofs.SameLaws.{and-left, and-right}
 use Rattle.image.specs.Refusal.{refuse, _else_}
-use Rattle.image.specs.View.{View, viewOf, isSize, isReplica, isSlots}
-use Rattle.image.specs.Cluster.{imageAt, decode}
+use Rattle.image.specs.View.{View, viewOf, isReplica}
+use Rattle.image.specs.Cluster.{decode}
 use Rattle.image.proofs.RefusalLaws.{refuse-zero, else-next, else-first, else-zero-l, else-zero-r}
 use Rattle.image.proofs.ViewLaws.{length-le}
 use Rattle.image.proofs.CallLaws.{slots-high, replica-low, replica-high, is-replica}
 use Rattle.planner.specs.Setting.{Setting, has, settingOf, viewsOf}
-use Rattle.planner.specs.Plan.{viewsIn, clusterRefusal, planRefusal}
+use Rattle.planner.specs.Plan.{viewsIn, clusterRefusal}
 use Rattle.planner.specs.Survey.{Surveyed, SurveyOf}
-use Rattle.planner.specs.Answers.{shapeRefusal, leaderRefusal, lentRefusal}
-use Rattle.planner.proofs.SeenLaws.{size-le, start-is}
-
--- ---- refusals 1, 2, 3 and 11
-
-pub cluster-fits : (n m : ℕ) → n ≤ 7 → m ≤ 64 → (28 + 274 * m) * n ≤ 122948
-cluster-fits n m h g = omega (arith, mul-le-mul {n₁ = 28 + 274 * m} {m₁ = n} {n₂ = 17564} {m₂ = 7} (omega arith) h)
-
-shifted : (n present : ℕ) → (present / 2 ^ n ≡ 0 → ⊥) → ltb present (2 ^ n) ≡ false
-shifted n present e = go (ltb present (2 ^ n)) refl
-  where
-    go : (t : Bool) → ltb present (2 ^ n) ≡ t → t ≡ false
-    go true q = absurd (e (div-eq-of-lt (ltb-true present (2 ^ n) q)))
-    go false q = refl
-
-unshifted : (n present : ℕ) → present / 2 ^ n ≡ 0 → ltb present (2 ^ n) ≡ true
-unshifted n present e =
-    lt-ltb present (2 ^ n) (rw one-mul at (div-lt-iff-lt-mul {k = 2 ^ n} {x = present} {y = 1} (pow-pos n) .0 (omega (arith, e))))
-
-module _ (n m present size : ℕ) where
-  pub shape-slots : isSlots m ≡ false → 1 ≡ shapeRefusal n m present size
-  unfolding shapeRefusal refuse _else_
-  shape-slots e = rw e refl
-
-  module _ (s : isSlots m ≡ true) where
-    pub shape-size : isSize n ≡ false → 2 ≡ shapeRefusal n m present size
-    unfolding shapeRefusal refuse _else_
-    shape-size e = rw (s, e) refl
-
-    module _ (z : isSize n ≡ true) where
-      pub shape-bytes : (size ≡ (28 + 274 * m) * n → ⊥) → 3 ≡ shapeRefusal n m present size
-      unfolding shapeRefusal refuse _else_
-      shape-bytes e = rw (s, z, ne-eqb size (imageAt m n) (λ q. e (q ∙ sym (start-is m n)))) refl
-
-      module _ (b : size ≡ (28 + 274 * m) * n) where
-        sized : eqb size (imageAt m n) ≡ true
-        sized = eq-eqb size (imageAt m n) (b ∙ start-is m n)
-
-        pub shape-set : (present / 2 ^ n ≡ 0 → ⊥) → 11 ≡ shapeRefusal n m present size
-        unfolding shapeRefusal refuse _else_
-        shape-set e = rw (s, z, sized, shifted n present e) refl
-
-        pub shape-none : present / 2 ^ n ≡ 0 → 0 ≡ shapeRefusal n m present size
-        unfolding shapeRefusal refuse _else_
-        shape-none e = rw (s, z, sized, unshifted n present e) refl
-
-  module _ (r : shapeRefusal n m present size ≡ 0) where
-    pub shaped-slots : isSlots m ≡ true
-    unfolding shapeRefusal
-    shaped-slots = not-false _ (refuse-zero 0 _ (else-zero-l _ _ r))
-
-    pub shaped-size : isSize n ≡ true
-    unfolding shapeRefusal
-    shaped-size = not-false _ (refuse-zero 1 _ (else-zero-l _ _ (else-zero-r _ _ r)))
-
-    pub shaped-bytes : size ≡ imageAt m n
-    unfolding shapeRefusal
-    shaped-bytes = eqb-true _ _ (not-false _ (refuse-zero 2 _ (else-zero-l _ _ (else-zero-r _ _ (else-zero-r _ _ r)))))
+use Rattle.planner.specs.Answers.{shapeRefusal, leaderRefusal}
+use Rattle.planner.proofs.SeenLaws.{size-le}
+use Rattle.planner.proofs.ShapeLaws.{shaped-slots, shaped-size}
 
 -- ---- refusal 12
 
@@ -164,47 +107,6 @@ unfolding isReplica
 leader-first n m leader present b e =
     let z = else-zero-r _ _ (sym (cluster-is n m leader present b) ∙ e) in
     leb-true 1 leader (and-left (leb 1 leader) (leb leader n) (and-left (isReplica n leader) (viewsIn (settingOf n m leader present) b (pred leader) .readable) (not-false _ (refuse-zero 11 _ z))))
-
--- ---- refusal 13
-
-module _ (refusal n m bytes rows : ℕ) where
-  pub lent-first : (refusal ≡ 0 → ⊥) → refusal ≡ lentRefusal refusal n m bytes rows
-  unfolding lentRefusal
-  lent-first e = sym (else-first refusal _ e)
-
-  module _ (z : refusal ≡ 0) where
-    pub lent-plan : (bytes ≡ m → ⊥) → 13 ≡ lentRefusal refusal n m bytes rows
-    unfolding lentRefusal refuse _else_
-    lent-plan e = rw (z, ne-eqb bytes m e) refl
-
-    module _ (q : bytes ≡ m) where
-      pub lent-table : (rows ≡ n → ⊥) → 13 ≡ lentRefusal refusal n m bytes rows
-      unfolding lentRefusal refuse _else_
-      lent-table e = rw (z, eq-eqb bytes m q, ne-eqb rows n e) refl
-
-      pub lent-none : rows ≡ n → 0 ≡ lentRefusal refusal n m bytes rows
-      unfolding lentRefusal refuse _else_
-      lent-none e = rw (z, eq-eqb bytes m q, eq-eqb rows n e) refl
-
-  module _ {r : ℕ} (e : r ≡ lentRefusal refusal n m bytes rows) (z : r ≡ 0) where
-    pub lent-zero : refusal ≡ 0
-    unfolding lentRefusal
-    lent-zero = else-zero-l refusal _ (sym e ∙ z)
-
-    both : (eqb bytes m && eqb rows n) ≡ true
-    unfolding lentRefusal
-    both = not-false _ (refuse-zero 12 _ (else-zero-r refusal _ (sym e ∙ z)))
-
-    pub lent-bytes : bytes ≡ m
-    lent-bytes = eqb-true bytes m (and-left (eqb bytes m) (eqb rows n) both)
-
-    pub lent-rows : rows ≡ n
-    lent-rows = eqb-true rows n (and-right (eqb bytes m) (eqb rows n) both)
-
-pub refusal-is : (n m leader present : ℕ) (b : Bytes) (bytes rows : ℕ) {r v : ℕ} → r ≡ lentRefusal v n m bytes rows → v ≡ clusterRefusal n m leader present b
-    → r ≡ planRefusal n m leader present b bytes rows
-unfolding lentRefusal planRefusal
-refusal-is n m leader present b bytes rows e q = e ∙ rw q refl
 
 pub cluster-shaped : (n m leader present : ℕ) (b : Bytes) → clusterRefusal n m leader present b ≡ 0 → shapeRefusal n m present (length b) ≡ 0
 cluster-shaped n m leader present b e = else-zero-l _ _ (sym (cluster-is n m leader present b) ∙ e)

@@ -7,7 +7,8 @@ use lib.Dec.{eqb, ltb}
 use borrow.Author.Tests.{ltb-true}
 use Rattle.slices.proofs.SameLaws.{and-off}
 use Rattle.search.specs.Search.{lowest, count}
-use Rattle.search.proofs.SearchLaws.{lowest-le, lowest-cong, count-cong}
+use Rattle.search.proofs.SearchLaws.{lowest-le, lowest-cong}
+use Rattle.search.proofs.CountLaws.{count-cong}
 use Rattle.image.specs.View.{View}
 use Rattle.image.specs.Read.{isWhole}
 use Rattle.planner.specs.Setting.{Setting}

@@ -6,7 +6,9 @@ pub mod RuleLaws
 pub mod CongLaws
 pub mod PlanLaws
 pub mod SeenLaws
+pub mod ShapeLaws
 pub mod CallLaws
+pub mod LentLaws
 pub mod RowLaws
 pub mod FrontLaws
 pub mod OutcomeLaws

@@ -22,7 +22,9 @@ use Rattle.planner.specs.Survey.{SurveyOf, Planned}
 use Rattle.planner.specs.Answers.{answered, answerAt, planAnswer, unlessRefused, rowsOf, frontRows, lentRefusal, numberRow, Outcome}
 use Rattle.planner.proofs.RowLaws.{lengths-fit, rows-are}
 use Rattle.planner.proofs.SeenLaws.{size-le}
-use Rattle.planner.proofs.CallLaws.{lent-rows, lent-zero, shaped-size, cluster-shaped}
+use Rattle.planner.proofs.ShapeLaws.{shaped-size}
+use Rattle.planner.proofs.CallLaws.{cluster-shaped}
+use Rattle.planner.proofs.LentLaws.{lent-rows, lent-zero}
 use Rattle.planner.proofs.FrontLaws.{front-none, front-all}
 
 pub answer-waiting : (e w : ℕ) → w < e → plan.Waiting (w + 1) ≡ answerAt e w

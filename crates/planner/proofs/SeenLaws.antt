@@ -20,7 +20,7 @@ use Rattle.image.specs.Seen.{Seen, conditionsOf, conditionNumber}
 use Rattle.image.specs.Cluster.{imageAt, imagePart, decode}
 use Rattle.image.proofs.DecodeLaws.{size-is}
 use Rattle.image.proofs.ClusterLaws.{image-at, image-fits}
-use Rattle.image.proofs.ScanLaws.{taken-at}
+use Rattle.image.proofs.ScannedLaws.{taken-at}
 use Rattle.planner.specs.Setting.{has, settingOf, viewsOf}
 use Rattle.planner.specs.Plan.{viewsIn}
 use Rattle.planner.specs.Sets.{inserted, setOf}

@@ -2,7 +2,7 @@
 use mathlib.Core.Path.{_≡_, refl, sym}
 use mathlib.Core.Bool.{Bool, true, false, cond, true≢false}
 use mathlib.Core.Option.{Option, none, some}
-use Prim.Native.Nat.{ℕ, _≤_, _<_, pred}
+use Prim.Native.Nat.{ℕ, _≤_, _<_}
 use native.Mathlib.Omega.{arith}
 use native.Mathlib.Decide.{ℕ-discrete, decLt}
 use lib.Dec.{eqb}
@@ -15,9 +15,11 @@ use Rattle.image.specs.Cluster.{Cluster}
 use Rattle.image.specs.View.{View, Whole, Faulty, condition, epochOf, conditionAt, epochAt, viewOf}
 use Rattle.planner.specs.Setting.{Setting, viewsOf}
 use Rattle.planner.specs.Rules.{isFaulty, isRecordLost, answers, answer, Ready}
-use Rattle.protocol.specs.Store.{Store, storeEntry, storeRecord, storeBlank}
-use Rattle.protocol.specs.Recovery.{_or_, ifBelow, leaderStore, differs, firstDiffering, followerStore, isSome, unlike, due, firstOf, followersStore, ifReady, next}
-use Rattle.protocol.proofs.Due.{ReadyPlan, ready-facts, LeaderDone, leader-done, or-none-l, or-none-r, below-none}
+use Rattle.protocol.specs.Store.{Store}
+use Rattle.protocol.specs.Recovery.{_or_, leaderStore, differs, firstDiffering, followerStore, isSome, unlike, due, firstOf, followersStore, ifReady, next}
+use Rattle.protocol.proofs.ChainLaws.{or-none-l, or-none-r, below-none}
+use Rattle.protocol.proofs.ReadyPlan.{ReadyPlan, ready-facts}
+use Rattle.protocol.proofs.LeaderDue.{LeaderDone, leader-done}
 use Rattle.protocol.proofs.Slots.{slot-whole, leader-whole, below-differing}
 
 -- a whole slot, in bytes
@@ -67,60 +69,22 @@ pub record FollowerDone (S : Setting) (W : ℕ → View) (c : ℕ) : Type 0 wher
 follower-done : (S : Setting) (W : ℕ → View) (u : Bool) (c : ℕ) → followerStore S W u c ≡ none → FollowerDone S W c
 unfolding followerStore firstDiffering
 follower-done S W u c e =
+    let len = W c .length in
+    let d = firstDiffering S W c in
+    let fault = lowest (λ k. isFaulty (W c .condition k)) d in
+    let lost = lowest (λ k. isRecordLost (W c .condition k)) d in
+    let unblanked = or-none-r _ _ e in
+    let unmended = or-none-r _ _ unblanked in
+    let x : d ≤ len = lowest-le (differs S W c) len in
+    let a : len ≤ d = below-none d len _ (or-none-l _ _ e) in
+    let b : d ≤ fault = below-none fault d _ (or-none-l _ _ unblanked) in
+    let g : d ≤ lost = below-none lost d _ (or-none-l _ _ unmended) in
     record {
       untruncated = omega (arith, a, x);
       unfaulty = λ k h. below-lowest (λ k. isFaulty (W c .condition k)) d k (omega (arith, b, a, x));
       unlost = λ k h. below-lowest (λ k. isRecordLost (W c .condition k)) d k (omega (arith, g, a, x));
-      complete = y;
+      complete = below-none len (W (S .leader) .length) _ (or-none-r _ _ unmended);
     }
-  where
-    len : ℕ
-    len = W c .length
-
-    d : ℕ
-    d = firstDiffering S W c
-
-    fault : ℕ
-    fault = lowest (λ k. isFaulty (W c .condition k)) d
-
-    lost : ℕ
-    lost = lowest (λ k. isRecordLost (W c .condition k)) d
-
-    one : Option Store
-    one = ifBelow d len (storeBlank c (pred len))
-
-    two : Option Store
-    two = ifBelow fault d (storeEntry c fault (S .leader))
-
-    three : Option Store
-    three = ifBelow lost d (storeRecord c lost (W c .epoch lost))
-
-    missing : Store
-    missing = cond u (storeEntry c len (S .leader)) (storeRecord c len (W (S .leader) .epoch len))
-
-    four : Option Store
-    four = ifBelow len (W (S .leader) .length) missing
-
-    e₁ : (two or three or four) ≡ none
-    e₁ = or-none-r one (two or three or four) e
-
-    e₂ : (three or four) ≡ none
-    e₂ = or-none-r two (three or four) e₁
-
-    a : len ≤ d
-    a = below-none d len (storeBlank c (pred len)) (or-none-l one (two or three or four) e)
-
-    b : d ≤ fault
-    b = below-none fault d (storeEntry c fault (S .leader)) (or-none-l two (three or four) e₁)
-
-    g : d ≤ lost
-    g = below-none lost d (storeRecord c lost (W c .epoch lost)) (or-none-l three four e₂)
-
-    y : W (S .leader) .length ≤ len
-    y = below-none len (W (S .leader) .length) missing (or-none-r three four e₂)
-
-    x : d ≤ len
-    x = lowest-le (differs S W c) len
 
 -- the plan is ready and no store is outstanding
 pub record AtRest (S : Setting) (F : Cluster) : Type 0 where

@@ -5,7 +5,7 @@ use Prim.Native.Nat.{ℕ, suc, _<_}
 use native.Mathlib.Omega.{arith}
 use native.Mathlib.Decide.{ℕ-discrete}
 use Rattle.search.specs.Search.{put}
-use Rattle.search.proofs.SearchLaws.{put-same, put-other}
+use Rattle.search.proofs.UpdateLaws.{put-same, put-other}
 use Rattle.slices.specs.Parts.{Bytes}
 use Rattle.record.specs.Meaning.{intact, broken}
 use Rattle.image.specs.Image.{Image, setEntry}
@@ -14,7 +14,8 @@ use Rattle.image.specs.View.{View}
 use Rattle.image.proofs.StoreLaws.{entry-at, entry-off}
 use Rattle.planner.specs.Setting.{Setting, viewsOf}
 use Rattle.protocol.specs.Store.{Store, afterStore}
-use Rattle.protocol.proofs.Due.{ReadyPlan, Due}
+use Rattle.protocol.proofs.ReadyPlan.{ReadyPlan}
+use Rattle.protocol.proofs.Due.{Due}
 use Rattle.protocol.proofs.Slots.{answers-readable, below-differing}
 use Rattle.protocol.proofs.Moves.{Off, Move, leader-blanked, leader-mended, follower-blanked, follower-mended, follower-filled, follower-appended, moved}
 use Rattle.protocol.proofs.PlanLaws.{off-views, same-plan}

@@ -5,13 +5,14 @@ use Prim.Native.Nat.{ℕ, suc, _≤_, _<_}
 use native.Mathlib.Omega.{arith}
 use native.Mathlib.Decide.{ℕ-discrete}
 use lib.Dec.{eqb}
-use borrow.Author.Tests.{eq-eqb, eqb-true}
+use borrow.Author.Tests.{eqb-true}
 use Rattle.slices.specs.Parts.{Bytes}
 use Rattle.record.specs.Meaning.{Record, good, blank, bad, Entry, intact, broken}
 use Rattle.image.specs.Image.{Image, setRecord, setEntry}
 use Rattle.image.specs.View.{View, Condition, Unused, Whole, RecordLost, Faulty, Lost, condition, epochOf, isBlank, isLost, conditionAt, epochAt, logLength, viewOf}
 use Rattle.image.specs.Read.{isWhole}
 use Rattle.image.proofs.ViewLaws.{Sound, readable-present, readable-sound, readable-intro}
+use Rattle.image.proofs.AddedLaws.{whole-beside}
 use Rattle.image.proofs.StoreLaws.{entry-length, entry-epoch, entry-condition, entry-condition-other, entry-sound, record-condition, record-condition-other, record-epoch, record-epoch-other, mended-length, mended-epoch, mended-sound, blanked-length, blanked-sound, appended-length, appended-sound}
 use Rattle.planner.specs.Setting.{Setting}
 use Rattle.planner.specs.Rules.{isFaulty, isRecordLost}
@@ -70,10 +71,6 @@ lost-used (good e) x h = refl
 lost-used blank x h = sym h
 lost-used (bad b) x h = refl
 
-good-intact : (e : ℕ) (p : Bytes) → condition (good e) (intact e p) ≡ Whole
-unfolding condition
-good-intact e p = rw (eq-eqb e e refl)
-
 -- ---- a view before and after
 pub record Blanked (l : ℕ) (a b : View) : Type 0 where
   pub readable : b .readable ≡ true
@@ -125,7 +122,7 @@ module _ (S : Setting) (c : ℕ) (i : Image) (ok : view S c i .readable ≡ true
       let g = faulty-good (i .records k) (i .entries k) h in
       let x = intact (epochOf (i .records k) (i .entries k)) p in
       let same : epochOf (i .records k) x ≡ epochAt i k = rw (g .is) in
-      let w : condition (i .records k) x ≡ Whole = rw (g .is) (good-intact (g .epoch) p) in
+      let w : condition (i .records k) x ≡ Whole = rw (g .is) (whole-beside (g .epoch) p) in
       record {
         readable = readable (setEntry i k x) (entry-sound (S .m) i k x sound (ap isLost w) same);
         lengths = entry-length (S .m) i k x;
@@ -140,7 +137,7 @@ module _ (S : Setting) (c : ℕ) (i : Image) (ok : view S c i .readable ≡ true
   write-effect k h =
       let e = epochAt i k in
       let y = whole-intact (i .records k) (i .entries k) (lost-whole (condition (i .records k) (i .entries k)) h) in
-      let w : condition (good e) (i .entries k) ≡ Whole = ap (λ (x : Entry). condition (good e) x) (y .is) ∙ good-intact e (y .payload) in
+      let w : condition (good e) (i .entries k) ≡ Whole = ap (λ (x : Entry). condition (good e) x) (y .is) ∙ whole-beside e (y .payload) in
       let u = lost-used (i .records k) (i .entries k) h in
       record {
         readable = readable (setRecord i k (good e)) (mended-sound (S .m) i k e sound u refl (ap isLost w));
@@ -157,7 +154,7 @@ module _ (S : Setting) (c : ℕ) (i : Image) (ok : view S c i .readable ≡ true
   unfolding viewOf setRecord isLost epochOf
   append-effect e p room x up =
       let l = logLength (S .m) i in
-      let w : condition (good e) (i .entries l) ≡ Whole = ap (λ (y : Entry). condition (good e) y) x ∙ good-intact e p in
+      let w : condition (good e) (i .entries l) ≡ Whole = ap (λ (y : Entry). condition (good e) y) x ∙ whole-beside e p in
       record {
         readable = readable (setRecord i l (good e)) (appended-sound (S .m) i l e sound refl room (ap isLost w) up);
         was = refl;

@@ -6,7 +6,7 @@ use native.Mathlib.Omega.{arith}
 use native.Mathlib.Decide.{ℕ-discrete}
 use borrow.Author.Tests.{eq-eqb}
 use Rattle.search.specs.Search.{put}
-use Rattle.search.proofs.SearchLaws.{put-same, put-other}
+use Rattle.search.proofs.UpdateLaws.{put-same, put-other}
 use Rattle.slices.specs.Parts.{Bytes}
 use Rattle.record.specs.Meaning.{Record, good, blank, bad, Entry, intact, broken}
 use Rattle.image.specs.Cluster.{Cluster}
@@ -17,7 +17,10 @@ use Rattle.planner.specs.Setting.{Setting, viewsOf}
 use Rattle.planner.specs.Rules.{isFaulty, isRecordLost}
 use Rattle.protocol.specs.Store.{Store, storeEntry, storeRecord, storeBlank, storeReplica, storeSlot, afterStore}
 use Rattle.protocol.proofs.Effects.{IntactAt, whole-intact, lost-whole}
-use Rattle.protocol.proofs.Due.{ReadyPlan, LeaderDue, FollowerDue, Due, by-leader, by-follower, leader-blank, leader-fetch, leader-write, follower-blank, follower-mend, follower-write, follower-fill, follower-append}
+use Rattle.protocol.proofs.ReadyPlan.{ReadyPlan}
+use Rattle.protocol.proofs.LeaderDue.{LeaderDue, leader-blank, leader-fetch, leader-write}
+use Rattle.protocol.proofs.FollowerDue.{FollowerDue, follower-blank, follower-mend, follower-write, follower-fill, follower-append}
+use Rattle.protocol.proofs.Due.{Due, by-leader, by-follower}
 use Rattle.protocol.proofs.Slots.{answers-readable, fetch-facts, leader-fits, leader-entry}
 use Rattle.protocol.proofs.Reach.{Torn, torn}
 

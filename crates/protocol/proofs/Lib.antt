@@ -1,10 +1,17 @@
 -- The theory of steps: what a store leaves, and how runs end.
 pub mod Effects
 pub mod RuleLaws
+pub mod ChainLaws
+pub mod ReadyPlan
+pub mod LeaderDue
+pub mod FollowerDue
 pub mod Due
 pub mod Slots
 pub mod Moves
 pub mod PlanLaws
+pub mod Work
+pub mod LeaderWork
+pub mod FollowerWork
 pub mod Measure
 pub mod Reach
 pub mod TornLaw

@@ -4,7 +4,7 @@ use mathlib.Core.Bool.{Bool, true, false}
 use Prim.Native.Nat.{ℕ, _≤_, _<_}
 use native.Mathlib.Omega.{arith}
 use Rattle.search.specs.Search.{put}
-use Rattle.search.proofs.SearchLaws.{put-same, put-other}
+use Rattle.search.proofs.UpdateLaws.{put-same, put-other}
 use Rattle.slices.specs.Same.{same}
 use Rattle.record.specs.Meaning.{good, blank, Entry, intact}
 use Rattle.image.specs.Image.{Image, setRecord, setEntry}
@@ -16,7 +16,10 @@ use Rattle.planner.specs.Rules.{isFaulty, isRecordLost, answers, Keep, isTrunca
 use Rattle.protocol.specs.Store.{Store, afterStore}
 use Rattle.protocol.specs.Recovery.{firstDiffering, unlike}
 use Rattle.protocol.proofs.Effects.{view, Blanked, Mended, Appended, blank-effect, mend-effect, write-effect, append-effect, fill-effect}
-use Rattle.protocol.proofs.Due.{ReadyPlan, LeaderDone, LeaderDue, FollowerDue, Due, by-leader, by-follower, leader-blank, leader-fetch, leader-write, follower-blank, follower-mend, follower-write, follower-fill, follower-append}
+use Rattle.protocol.proofs.ReadyPlan.{ReadyPlan}
+use Rattle.protocol.proofs.LeaderDue.{LeaderDone, LeaderDue, leader-blank, leader-fetch, leader-write}
+use Rattle.protocol.proofs.FollowerDue.{FollowerDue, follower-blank, follower-mend, follower-write, follower-fill, follower-append}
+use Rattle.protocol.proofs.Due.{Due, by-leader, by-follower}
 use Rattle.protocol.proofs.Slots.{entry-refl, answers-readable, answers-other, below-differing, leader-entry, fetch-facts, donor-entry, like-entry, leader-fits, append-up}
 
 -- ---- a store made: one replica changes, and how

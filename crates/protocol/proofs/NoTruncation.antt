@@ -7,7 +7,8 @@ use native.Mathlib.Decide.{decLt}
 use lib.Dec.{eqb, ltb}
 use borrow.Author.Tests.{eq-eqb, lt-ltb, leb-true, not-true}
 use Rattle.search.specs.Search.{count}
-use Rattle.search.proofs.SearchLaws.{count-disjoint, lowest-passes}
+use Rattle.search.proofs.SearchLaws.{lowest-passes}
+use Rattle.search.proofs.CountLaws.{count-disjoint}
 use Rattle.slices.specs.Parts.{Bytes}
 use Rattle.slices.proofs.SameLaws.{and-left, and-right}
 use Rattle.record.specs.Meaning.{Record, good, blank, bad, Entry, intact, broken}

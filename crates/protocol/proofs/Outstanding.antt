@@ -9,7 +9,7 @@ use Rattle.image.specs.Cluster.{Cluster}
 use Rattle.planner.specs.Setting.{Setting}
 use Rattle.protocol.specs.Store.{Store, afterStore}
 use Rattle.protocol.specs.Recovery.{next, after, steps, stores}
-use Rattle.protocol.proofs.Measure.{work-bound}
+use Rattle.protocol.proofs.Work.{work-bound}
 use Rattle.protocol.proofs.Reach.{Torn}
 use Rattle.protocol.proofs.TornLaw.{torn-law}
 use Rattle.protocol.proofs.Runs.{enough, finishes, stores-bound}

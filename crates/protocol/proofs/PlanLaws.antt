@@ -14,7 +14,8 @@ use Rattle.image.specs.Read.{isWhole}
 use Rattle.planner.specs.Setting.{Setting, viewsOf}
 use Rattle.planner.specs.Rules.{isFaulty, answers, agrees, have, dontHave, Keep, isTruncate, isWait, rule, donor, end, firstWaiting, answer, Ready}
 use Rattle.protocol.proofs.Effects.{view, Blanked, Mended}
-use Rattle.protocol.proofs.Due.{ReadyPlan, LeaderDone}
+use Rattle.protocol.proofs.ReadyPlan.{ReadyPlan}
+use Rattle.protocol.proofs.LeaderDue.{LeaderDone}
 use Rattle.protocol.proofs.Slots.{answers-readable, answers-other}
 use Rattle.protocol.proofs.Moves.{Off, Move, leader-blanked, leader-mended, follower-blanked, follower-mended, follower-filled, follower-appended}
 

@@ -11,7 +11,8 @@ use Rattle.protocol.specs.Recovery.{next, after, steps, stores}
 use Rattle.protocol.proofs.Due.{due-facts}
 use Rattle.protocol.proofs.Moves.{moved}
 use Rattle.protocol.proofs.PlanLaws.{same-plan, answer-same}
-use Rattle.protocol.proofs.Measure.{work, work-bound, work-falls}
+use Rattle.protocol.proofs.Work.{work, work-bound}
+use Rattle.protocol.proofs.Measure.{work-falls}
 use Rattle.protocol.proofs.Reach.{Torn, Reach, here, made}
 use Rattle.protocol.proofs.TornLaw.{torn-law}
 

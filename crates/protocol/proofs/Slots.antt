@@ -19,7 +19,8 @@ use Rattle.planner.specs.Rules.{isFaulty, isRecordLost, isUsed, answers, agrees
 use Rattle.protocol.specs.Store.{sameEntry}
 use Rattle.protocol.specs.Recovery.{differs, firstDiffering, unlike}
 use Rattle.protocol.proofs.Effects.{IntactAt, whole-intact}
-use Rattle.protocol.proofs.Due.{ReadyPlan, LeaderDone}
+use Rattle.protocol.proofs.ReadyPlan.{ReadyPlan}
+use Rattle.protocol.proofs.LeaderDue.{LeaderDone}
 
 -- ---- the test of two entries
 pub same-entry : (x y : Entry) → sameEntry x y ≡ true → x ≡ y

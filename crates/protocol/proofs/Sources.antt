@@ -5,7 +5,7 @@ use Prim.Native.Nat.{ℕ, suc, _<_}
 use native.Mathlib.Omega.{arith}
 use native.Mathlib.Decide.{ℕ-discrete, decLt}
 use Rattle.search.specs.Search.{put}
-use Rattle.search.proofs.SearchLaws.{put-same}
+use Rattle.search.proofs.UpdateLaws.{put-same}
 use Rattle.record.specs.Meaning.{good, blank, Entry, intact}
 use Rattle.image.specs.Image.{Image, setEntry, setRecord}
 use Rattle.image.specs.Cluster.{Cluster}
@@ -17,7 +17,10 @@ use Rattle.planner.specs.Setting.{Setting, viewsOf}
 use Rattle.planner.specs.Rules.{donor}
 use Rattle.protocol.specs.Store.{Store, afterStore, storeReplica}
 use Rattle.protocol.proofs.Effects.{view, Mended, Appended, blank-effect, mend-effect, write-effect, append-effect, fill-effect}
-use Rattle.protocol.proofs.Due.{ReadyPlan, LeaderDue, FollowerDue, Due, by-leader, by-follower, leader-blank, leader-fetch, leader-write, follower-blank, follower-mend, follower-write, follower-fill, follower-append}
+use Rattle.protocol.proofs.ReadyPlan.{ReadyPlan}
+use Rattle.protocol.proofs.LeaderDue.{LeaderDue, leader-blank, leader-fetch, leader-write}
+use Rattle.protocol.proofs.FollowerDue.{FollowerDue, follower-blank, follower-mend, follower-write, follower-fill, follower-append}
+use Rattle.protocol.proofs.Due.{Due, by-leader, by-follower}
 use Rattle.protocol.proofs.Slots.{answers-readable, fetch-facts, donor-entry, leader-entry, leader-fits, like-entry, below-differing, append-up}
 use Rattle.protocol.proofs.Keeps.{stored-off, Target}
 

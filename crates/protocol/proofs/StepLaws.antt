@@ -21,7 +21,8 @@ use Rattle.planner.specs.Setting.{Setting, viewsOf}
 use Rattle.protocol.specs.Store.{Store, storeEntry, storeRecord, storeBlank, storeReplica, storeSlot, afterStore}
 use Rattle.protocol.specs.Recovery.{next, after, steps, stores}
 use Rattle.protocol.specs.StepBytes.{afterStoreBytes, nextIn, stepsBytes, storesBytes}
-use Rattle.protocol.proofs.Due.{ReadyPlan, Due, due-facts}
+use Rattle.protocol.proofs.ReadyPlan.{ReadyPlan}
+use Rattle.protocol.proofs.Due.{Due, due-facts}
 use Rattle.protocol.proofs.Keeps.{SomeEntry, due-target, due-slot, due-donor, due-epoch}
 use Rattle.protocol.proofs.Reach as reach
 

@@ -6,7 +6,7 @@ use Prim.Native.Nat.{ℕ}
 use native.Mathlib.Omega.{arith}
 use native.Mathlib.Decide.{ℕ-discrete}
 use Rattle.search.specs.Search.{put}
-use Rattle.search.proofs.SearchLaws.{put-same, put-other, put-put}
+use Rattle.search.proofs.UpdateLaws.{put-same, put-other, put-put}
 use Rattle.slices.specs.Parts.{Bytes}
 use Rattle.record.specs.Meaning.{broken}
 use Rattle.image.specs.Image.{Image, setEntry}
@@ -18,7 +18,10 @@ use Rattle.planner.specs.Rules.{answers}
 use Rattle.protocol.specs.Store.{sameEntry, Store, storeEntry, afterStore}
 use Rattle.protocol.specs.Recovery.{_or_, leaderStore, unlike, due, firstOf, followersStore, next}
 use Rattle.protocol.proofs.Effects.{view, IntactAt, torn-effect, fill-effect}
-use Rattle.protocol.proofs.Due.{ReadyPlan, LeaderDue, FollowerDue, Due, by-leader, by-follower, leader-fetch, follower-mend, follower-fill, Outstanding, due-facts}
+use Rattle.protocol.proofs.ReadyPlan.{ReadyPlan}
+use Rattle.protocol.proofs.LeaderDue.{LeaderDue, leader-fetch}
+use Rattle.protocol.proofs.FollowerDue.{FollowerDue, follower-mend, follower-fill}
+use Rattle.protocol.proofs.Due.{Due, by-leader, by-follower, Outstanding, due-facts}
 use Rattle.protocol.proofs.Slots.{answers-readable, answers-other, fetch-facts, leader-entry, leader-fits}
 use Rattle.protocol.proofs.Moves.{unlike-same}
 use Rattle.protocol.proofs.Measure.{unlike-off}

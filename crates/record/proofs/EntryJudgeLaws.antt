@@ -9,7 +9,7 @@ use lib.ListN.{length, take, drop, length-append, length-take, length-drop}
 use borrow.Author.Tests.{leb-true, le-leb, lt-leb, not-true, not-false}
 use Rattle.slices.specs.Parts.{Bytes, part}
 use Rattle.slices.specs.Same.{same}
-use Rattle.slices.proofs.SameLaws.{and-left, and-right, and-off, and-assoc, same-refl}
+use Rattle.slices.proofs.SameLaws.{and-left, and-right, and-off, and-assoc, same-refl, and-on}
 use Rattle.slices.proofs.PartLaws.{length-part, part-take}
 use Rattle.column.specs.Column.{column, valueOf}
 use Rattle.column.proofs.ColumnLaws.{length-column}
@@ -19,7 +19,7 @@ use Rattle.record.specs.Judged.{isFront, entryAnswer}
 use Rattle.record.specs.declared.EntryState.the-variants.{Intact, Broken}
 use Rattle.record.proofs.LayoutLaws.{length-sealed}
 use Rattle.record.proofs.RecordLaws.{epoch-high}
-use Rattle.record.proofs.JudgeLaws.{and-on, same-front, same-column, sealed-is, close}
+use Rattle.record.proofs.JudgeLaws.{same-front, same-column, sealed-is, close}
 
 -- what the seal of an entry covers, its payload's length being n
 abbrev covered : ℕ → ℕ → ℕ → Bytes → Bytes

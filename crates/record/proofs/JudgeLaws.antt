@@ -10,7 +10,7 @@ use lib.Seq.{take-all, drop-cons, drop-drop, getD-take, getD-drop}
 use borrow.Author.Tests.{lt-leb, eq-eqb, ne-eqb, not-true, not-false}
 use Rattle.slices.specs.Parts.{Bytes, part}
 use Rattle.slices.specs.Same.{same}
-use Rattle.slices.proofs.SameLaws.{and-off, same-true, same-append}
+use Rattle.slices.proofs.SameLaws.{and-off, same-true, same-append, and-on}
 use Rattle.slices.proofs.PartLaws.{length-part, take-part, drop-part}
 use Rattle.checksum.specs.Checksum.{checksumOf}
 use Rattle.column.specs.Column.{column}
@@ -21,10 +21,6 @@ use Rattle.record.specs.Judged.{sealOf, isFront}
 use Rattle.record.proofs.RecordLaws.{is-epoch}
 
 -- ---- tests that follow one another
-
-pub and-on : (t : Bool) → t && true ≡ t
-and-on true = refl
-and-on false = refl
 
 -- the second matters only where the first holds
 and-when : (t u v : Bool) → (t ≡ true → u ≡ v) → t && u ≡ t && v

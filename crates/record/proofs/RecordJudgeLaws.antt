@@ -9,7 +9,7 @@ use lib.ListN.{length, take, getD, replicate, length-append, length-take}
 use borrow.Author.Tests.{eq-eqb, ne-eqb, not-true, not-false}
 use Rattle.slices.specs.Parts.{Bytes, part}
 use Rattle.slices.specs.Same.{same}
-use Rattle.slices.proofs.SameLaws.{and-left, and-off, and-assoc}
+use Rattle.slices.proofs.SameLaws.{and-left, and-off, and-assoc, and-on}
 use Rattle.slices.proofs.PartLaws.{part-take, part-drop}
 use Rattle.column.specs.Column.{column, valueOf}
 use Rattle.column.proofs.ColumnLaws.{length-column}
@@ -18,7 +18,7 @@ use Rattle.record.specs.Meaning.{isEpoch, isGood, recordEpoch, readRecor
 use Rattle.record.specs.Judged.{sealOf, isFront, recordAnswer}
 use Rattle.record.specs.declared.RecordState.the-variants.{Good, Blank, Bad}
 use Rattle.record.proofs.RecordLaws.{epoch-high}
-use Rattle.record.proofs.JudgeLaws.{and-on, same-front, same-column, same-last, sealed-is}
+use Rattle.record.proofs.JudgeLaws.{same-front, same-column, same-last, sealed-is}
 
 module _ (k e : ℕ) (s : Bytes) (h : length s ≡ 34) where
   record-tests : same s (recordBytes e k)

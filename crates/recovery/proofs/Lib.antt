@@ -2,7 +2,8 @@
 pub mod OffsetLaws
 pub mod MadeLaws
 pub mod LookLaws
-pub mod NextLaws
+pub mod LeaderStoreLaws
+pub mod FollowerStoreLaws
 pub mod FollowerLaws
 pub mod OutlookLaws
 pub mod OutcomeLaws

@@ -11,7 +11,7 @@ use Rattle.search.specs.Search.{lowest}
 use Rattle.search.proofs.SearchLaws.{lowest-le, lowest-passes, lowest-cong}
 use Rattle.image.specs.View.{Condition, Unused, Whole, RecordLost, Faulty, Lost, View}
 use Rattle.image.specs.Seen.{conditionNumber}
-use Rattle.image.proofs.ScanLaws.{taken-at}
+use Rattle.image.proofs.ScannedLaws.{taken-at}
 use Rattle.planner.specs.Setting.{Setting}
 use Rattle.planner.specs.Rules.{isFaulty, isRecordLost, isTruncate, Rule, Keep, Fetch, Truncate, Wait, isFetch, rule, donor, end}
 use Rattle.planner.specs.Plan.{keptByte, ruleByte, planByte, planBytes}

@@ -37,7 +37,9 @@ use Rattle.protocol.proofs.Keeps.{due-target, due-slot, due-donor}
 use Rattle.recovery.proofs.OffsetLaws.{image-code}
 use Rattle.demand3.proofs.CallLaws.{accepted, step-refused, step-kept, run-refused, run-kept, step-bytes, run-bytes}
 use Rattle.demand3.proofs.AfterCalls.{waiting-none}
-use Rattle.demand3.proofs.RunLaws.{steps-still, still-waiting, ready-run, ready-step}
+use Rattle.demand3.proofs.StepCountLaws.{steps-still}
+use Rattle.demand3.proofs.StillLaws.{still-waiting}
+use Rattle.demand3.proofs.RunLaws.{ready-run, ready-step}
 
 -- ---- a store that is outstanding lies in the cluster
 

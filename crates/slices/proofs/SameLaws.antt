@@ -23,6 +23,10 @@ and-right false y h = cc
 pub and-true : (x y : Bool) → x ≡ true → y ≡ true → x && y ≡ true
 and-true x y h k = rw (h, k)
 
+pub and-on : (t : Bool) → t && true ≡ t
+and-on true = refl
+and-on false = refl
+
 pub and-off : (x : Bool) → x && false ≡ false
 and-off true = refl
 and-off false = refl

@@ -1,4 +1,5 @@
-use Rattle.demand3.proofs.RunLaws.{uncut, runs}
+use Rattle.demand3.proofs.UncutLaws.{uncut}
+use Rattle.demand3.proofs.RunLaws.{runs}
 use Rattle.demand3.proofs.PartA.{part-a}
 use Rattle.demand3.proofs.PartB.{part-b}
 use Rattle.demand3.proofs.BeforeLaws.{damaged-cluster}

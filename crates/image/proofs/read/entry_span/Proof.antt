@@ -1,5 +1,5 @@
 -- `entry_span` finds the payload of an intact entry by its length; a whole slot has no other.
-use Rattle.image.proofs.ReadLaws.{span-empty, span-none, span-short, span-fits, span-there}
+use Rattle.image.proofs.PayloadLaws.{span-empty, span-none, span-short, span-fits, span-there}
 use native.Mathlib.Omega.{arith}
 use borrow.Author.Needs.{needs}
 use Rattle.image.proofs.read.entry_span.Statement.{statement}

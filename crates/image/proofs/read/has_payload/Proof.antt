@@ -1,6 +1,7 @@
 -- `has_payload` answers for an image that is not refused.
 use Rattle.image.proofs.CallLaws.{slots-high}
-use Rattle.image.proofs.ReadLaws.{opened-slots, payload-refused, payload-present, payload-absent}
+use Rattle.image.proofs.ReadLaws.{opened-slots}
+use Rattle.image.proofs.PayloadLaws.{payload-refused, payload-present, payload-absent}
 use borrow.Author.Needs.{needs}
 use Rattle.image.proofs.read.has_payload.Statement.{statement}
 use Rattle.image.proofs.read.has_payload.Tie as tie

@@ -1,5 +1,5 @@
 -- `is_whole` looks up the condition of a slot that there is.
-use Rattle.image.proofs.ReadLaws.{whole-low, whole-high, whole-first, whole-second}
+use Rattle.image.proofs.PayloadLaws.{whole-low, whole-high, whole-first, whole-second}
 use native.Mathlib.Omega.{arith}
 use borrow.Author.Needs.{needs}
 use Rattle.image.proofs.read.is_whole.Statement.{statement}

@@ -2,7 +2,8 @@
 use mathlib.Core.Path.{sym, _∙_}
 use borrow.Author.Tests.{not-false}
 use Rattle.image.proofs.CallLaws.{slots-high}
-use Rattle.image.proofs.ReadLaws.{opened-slots, opened-size, has-low, has-below, has-whole, span-empty, no-payload-refused, no-payload, payload-there}
+use Rattle.image.proofs.ReadLaws.{opened-slots, opened-size}
+use Rattle.image.proofs.PayloadLaws.{has-low, has-below, has-whole, span-empty, no-payload-refused, no-payload, payload-there}
 use borrow.Author.Needs.{needs}
 use Rattle.image.proofs.read.payload_span.Statement.{statement}
 use Rattle.image.proofs.read.payload_span.Tie as tie

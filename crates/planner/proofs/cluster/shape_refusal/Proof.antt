@@ -2,7 +2,7 @@ use mathlib.Core.Path.{sym, _∙_}
 use borrow.Author.Tests.{not-true, not-false}
 use Rattle.image.proofs.CallLaws.{slots-few, slots-many, is-slots}
 use Rattle.planner.proofs.SeenLaws.{size-le}
-use Rattle.planner.proofs.CallLaws.{shape-slots, shape-size, shape-bytes, shape-set, shape-none, cluster-fits}
+use Rattle.planner.proofs.ShapeLaws.{shape-slots, shape-size, shape-bytes, shape-set, shape-none, cluster-fits}
 use native.Mathlib.Omega.{arith}
 use borrow.Author.Needs.{needs}
 use Rattle.planner.proofs.cluster.shape_refusal.Statement.{statement}

@@ -1,6 +1,7 @@
 use mathlib.Core.Path.{sym, _∙_}
 use Rattle.planner.proofs.SeenLaws.{size-le}
-use Rattle.planner.proofs.CallLaws.{cluster-shape, cluster-leader, cluster-survey, shaped-size, shaped-slots, shaped-bytes}
+use Rattle.planner.proofs.ShapeLaws.{shaped-size, shaped-slots, shaped-bytes}
+use Rattle.planner.proofs.CallLaws.{cluster-shape, cluster-leader, cluster-survey}
 use borrow.Author.Needs.{needs}
 use Rattle.planner.proofs.cluster.view_cluster.Statement.{statement}
 use Rattle.planner.proofs.cluster.view_cluster.Tie as tie

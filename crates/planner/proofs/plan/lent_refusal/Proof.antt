@@ -1,4 +1,4 @@
-use Rattle.planner.proofs.CallLaws.{lent-first, lent-plan, lent-table, lent-none}
+use Rattle.planner.proofs.LentLaws.{lent-first, lent-plan, lent-table, lent-none}
 use Rattle.planner.proofs.plan.lent_refusal.Statement.{statement}
 use Rattle.planner.proofs.plan.lent_refusal.Tie as tie
 

@@ -1,6 +1,7 @@
 use mathlib.Core.Path.{sym, _∙_}
 use Rattle.planner.specs.Setting.{settingOf}
-use Rattle.planner.proofs.CallLaws.{refusal-is, lent-zero, lent-bytes, leader-first, survey-asks}
+use Rattle.planner.proofs.CallLaws.{leader-first, survey-asks}
+use Rattle.planner.proofs.LentLaws.{refusal-is, lent-zero, lent-bytes}
 use Rattle.planner.proofs.OutcomeLaws.{outcome-at, left-alone, rows-ask, planned-outcome, bytes-filled, plan-fits}
 use borrow.Author.Needs.{needs}
 use Rattle.planner.proofs.plan.plan_bytes.Statement.{statement}

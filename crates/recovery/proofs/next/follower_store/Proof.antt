@@ -3,7 +3,7 @@ use mathlib.Core.Path.{_≡_, sym, _∙_}
 use Rattle.planner.specs.Plan.{viewsIn}
 use Rattle.recovery.proofs.LookLaws.{found-within}
 use Rattle.protocol.proofs.UnlikeLaws.{unlike-found}
-use Rattle.recovery.proofs.NextLaws.{follower-blanks, follower-mends, follower-rewrites, follower-rests, follower-fills, follower-appends}
+use Rattle.recovery.proofs.FollowerStoreLaws.{follower-blanks, follower-mends, follower-rewrites, follower-rests, follower-fills, follower-appends}
 use native.Mathlib.Omega.{arith}
 use borrow.Author.Needs.{needs}
 use Rattle.recovery.proofs.next.follower_store.Statement.{statement}

@@ -1,7 +1,7 @@
 -- `leader_store` tries the leader's stores in their order.
 use borrow.Author.Tests.{ltb-true}
 use Rattle.recovery.proofs.LookLaws.{found-passes}
-use Rattle.recovery.proofs.NextLaws.{leader-blanks, leader-fetches, leader-rewrites, leader-rests}
+use Rattle.recovery.proofs.LeaderStoreLaws.{leader-blanks, leader-fetches, leader-rewrites, leader-rests}
 use native.Mathlib.Omega.{arith}
 use borrow.Author.Needs.{needs}
 use Rattle.recovery.proofs.next.leader_store.Statement.{statement}
