@@ -9,3 +9,4 @@ pub mod OutlookLaws
 pub mod OutcomeLaws
 pub mod Underway
 pub mod PlanCallLaws
+pub mod SeenAfterLaws

@@ -1,0 +1,118 @@
+-- What is seen after the first outstanding store is what was seen before with one slot changed: `next-seen`.
+use Prim.Native.Nat.{ℕ, suc, _≤_, _<_}
+use mathlib.Core.Path.{_≡_, refl, sym, ap, _∙_, fun-ext}
+use mathlib.Core.Bool.{Bool, true, false}
+use mathlib.Core.Option.{Option, none, some}
+use native.Mathlib.Omega.{arith}
+use native.Mathlib.Decide.{ℕ-discrete}
+use borrow.Author.Tests.{lt-ltb, le-ltb}
+use Rattle.search.specs.Search.{put}
+use Rattle.search.proofs.SearchLaws.{put-same, put-other, put-case}
+use Rattle.record.specs.Meaning.{good, blank, Entry, intact}
+use Rattle.image.specs.Image.{Image, setRecord, setEntry}
+use Rattle.image.specs.Cluster.{Cluster}
+use Rattle.image.specs.View.{View, Condition, Unused, Whole, condition, epochOf, conditionAt, epochAt, viewOf}
+use Rattle.image.proofs.StoreLaws.{record-condition, record-condition-other, record-epoch, record-epoch-other}
+use Rattle.planner.specs.Setting.{Setting, viewsOf}
+use Rattle.protocol.specs.Store.{Store, storeEntry, storeRecord, storeBlank, storeReplica, afterStore}
+use Rattle.protocol.specs.Recovery.{after, next}
+use Rattle.protocol.proofs.Effects.{view, Blanked, Mended, Appended, view-ext, blank-effect, mend-effect, write-effect, append-effect, fill-effect}
+use Rattle.protocol.proofs.Due.{ReadyPlan, LeaderDone, LeaderDue, FollowerDue, Due, by-leader, by-follower, leader-blank, leader-fetch, leader-write, follower-blank, follower-mend, follower-write, follower-fill, follower-append, due-facts}
+use Rattle.protocol.proofs.Slots.{answers-readable, below-differing, leader-entry, fetch-facts, donor-entry, like-entry, leader-fits, append-up}
+use Rattle.protocol.proofs.Keeps.{stored-off}
+use Rattle.recovery.specs.Note.{withSlot, seenAfter, viewsAfter}
+
+-- ---- one slot changed
+
+with-slot : (a b : View) (k l : ℕ) (x : Condition) (e : ℕ) → b .readable ≡ a .readable → b .length ≡ l → b .condition k ≡ x → b .epoch k ≡ e
+    → ((j : ℕ) → (j ≡ k → ⊥) → b .condition j ≡ a .condition j) → ((j : ℕ) → (j ≡ k → ⊥) → b .epoch j ≡ a .epoch j) → b ≡ withSlot a k l x e
+unfolding withSlot
+with-slot a b k l x e r n c d cs es =
+    view-ext b (withSlot a k l x e) r n
+    (λ j. put-case (λ (y : Condition). b .condition j ≡ y) (a .condition) k x j (λ q. rw q c) (cs j))
+    (λ j. put-case (λ (y : ℕ). b .epoch j ≡ y) (a .epoch) k e j (λ q. rw q d) (es j))
+
+mended-seen : (a b : View) (k : ℕ) → a .readable ≡ true → Mended k a b → b ≡ withSlot a k (a .length) Whole (a .epoch k)
+mended-seen a b k ok t = with-slot a b k (a .length) Whole (a .epoch k) (t .readable ∙ sym ok) (t .lengths) (t .whole) (t .epochs k) (t .conditions) (λ j q. t .epochs j)
+
+-- ---- the stores, on an image
+
+module _ (S : Setting) (c : ℕ) (i : Image) (ok : view S c i .readable ≡ true) where
+  blank-seen : (l : ℕ) → view S c i .length ≡ suc l → view S c (setRecord i l blank) ≡ seenAfter (storeBlank c l) (view S c i)
+  unfolding seenAfter viewOf condition epochOf
+  blank-seen l h =
+      let t = blank-effect S c i ok l h in
+      with-slot (view S c i) (view S c (setRecord i l blank)) l l Unused 0 (t .readable ∙ sym ok) (t .is)
+      (record-condition (S .m) i l blank) (record-epoch (S .m) i l blank) (record-condition-other (S .m) i l blank) (record-epoch-other (S .m) i l blank)
+
+  mend-seen : (k d : ℕ) (x : Entry) → k < view S c i .length → Mended k (view S c i) (view S c (setEntry i k x))
+      → view S c (setEntry i k x) ≡ seenAfter (storeEntry c k d) (view S c i)
+  unfolding seenAfter
+  mend-seen k d x h t = rw (lt-ltb k (view S c i .length) h) (mended-seen (view S c i) (view S c (setEntry i k x)) k ok t)
+
+  fill-seen : (k d : ℕ) (x : Entry) → view S c i .length ≤ k → k < S .m → view S c (setEntry i k x) ≡ seenAfter (storeEntry c k d) (view S c i)
+  unfolding seenAfter
+  fill-seen k d x h room = rw (le-ltb k (view S c i .length) h) (fill-effect S c i ok k x h room)
+
+  write-seen : (k : ℕ) → k < view S c i .length → Mended k (view S c i) (view S c (setRecord i k (good (view S c i .epoch k))))
+      → view S c (setRecord i k (good (view S c i .epoch k))) ≡ seenAfter (storeRecord c k (view S c i .epoch k)) (view S c i)
+  unfolding seenAfter
+  write-seen k h t = rw (lt-ltb k (view S c i .length) h) (mended-seen (view S c i) (view S c (setRecord i k (good (view S c i .epoch k)))) k ok t)
+
+  append-seen : (e : ℕ) → Appended (view S c i .length) e (view S c i) (view S c (setRecord i (view S c i .length) (good e)))
+      → view S c (setRecord i (view S c i .length) (good e)) ≡ seenAfter (storeRecord c (view S c i .length) e) (view S c i)
+  unfolding seenAfter viewOf
+  append-seen e t =
+      let l = view S c i .length in
+      rw (le-ltb l l (omega arith))
+      (with-slot (view S c i) (view S c (setRecord i l (good e))) l (suc l) Whole e (t .readable ∙ sym ok) (t .is) (t .whole) (t .epoch)
+      (record-condition-other (S .m) i l (good e)) (record-epoch-other (S .m) i l (good e)))
+
+-- ---- the store that is due
+
+leader-seen : (S : Setting) (F : Cluster) (s : Store) → ReadyPlan S (viewsOf S F) → LeaderDue S F s
+    → viewsOf S (afterStore s F) (storeReplica s) ≡ seenAfter s (viewsOf S F (storeReplica s))
+unfolding afterStore storeReplica viewsOf
+leader-seen S F s r (leader-blank l h e) = rw put-same (blank-seen S (S .leader) (F (S .leader)) (r .leader) l h)
+leader-seen S F s r (leader-fetch k h full e) =
+    let d = fetch-facts S (viewsOf S F) k e in
+    let y = donor-entry S F k d in
+    rw put-same (mend-seen S (S .leader) (F (S .leader)) (r .leader) k _ _ (omega (arith, full))
+    (rw (y .is) (mend-effect S (S .leader) (F (S .leader)) (r .leader) k (y .payload) (d .faulty))))
+leader-seen S F s r (leader-write k h full e) =
+    rw put-same (write-seen S (S .leader) (F (S .leader)) (r .leader) k (omega (arith, full)) (write-effect S (S .leader) (F (S .leader)) (r .leader) k e))
+
+follower-seen : (S : Setting) (F : Cluster) (s : Store) → ReadyPlan S (viewsOf S F) → FollowerDue S F s
+    → viewsOf S (afterStore s F) (storeReplica s) ≡ seenAfter s (viewsOf S F (storeReplica s))
+unfolding afterStore storeReplica viewsOf
+follower-seen S F s r (follower-blank c ld cn an l h e) = rw put-same (blank-seen S c (F c) (answers-readable S (viewsOf S F) c an) l h)
+follower-seen S F s r (follower-mend c ld cn an full k h e) =
+    let b = below-differing S (viewsOf S F) c k h in
+    let y = leader-entry S F (r .leader) ld k (b .within) in
+    let z : F (S .leader) .entries k ≡ intact (viewsOf S F c .epoch k) (y .payload) = y .is ∙ ap (λ (v : ℕ). intact v (y .payload)) (sym (b .epochs)) in
+    let ok = answers-readable S (viewsOf S F) c an in
+    rw put-same (mend-seen S c (F c) ok k _ _ (omega (arith, full)) (rw z (mend-effect S c (F c) ok k (y .payload) e)))
+follower-seen S F s r (follower-write c ld cn an full k h e) =
+    let ok = answers-readable S (viewsOf S F) c an in
+    rw put-same (write-seen S c (F c) ok k (omega (arith, full)) (write-effect S c (F c) ok k e))
+follower-seen S F s r (follower-fill c ld cn an full h e) =
+    rw put-same (fill-seen S c (F c) (answers-readable S (viewsOf S F) c an) (viewsOf S F c .length) _ _ (omega arith) (omega (arith, leader-fits S F (S .leader), h)))
+follower-seen S F s r (follower-append c ld cn an full h e) =
+    let y = leader-entry S F (r .leader) ld (viewsOf S F c .length) h in
+    let ok = answers-readable S (viewsOf S F) c an in
+    rw put-same (append-seen S c (F c) ok (viewsOf S F (S .leader) .epoch (viewsOf S F c .length))
+    (append-effect S c (F c) ok (viewsOf S F (S .leader) .epoch (viewsOf S F c .length)) (y .payload) (omega (arith, leader-fits S F (S .leader), h)) (like-entry S F c e ∙ y .is) (append-up S F c r ld full h)))
+
+due-seen : (S : Setting) (F : Cluster) (s : Store) → ReadyPlan S (viewsOf S F) → Due S F s
+    → viewsOf S (afterStore s F) (storeReplica s) ≡ seenAfter s (viewsOf S F (storeReplica s))
+due-seen S F s r (by-leader e d) = leader-seen S F s r d
+due-seen S F s r (by-follower e f d) = follower-seen S F s r d
+
+-- the other replicas are seen as before
+pub next-seen : (S : Setting) (F : Cluster) (s : Store) → next S F ≡ some s → viewsOf S (afterStore s F) ≡ viewsAfter (some s) (viewsOf S F)
+unfolding viewsAfter after
+next-seen S F s e =
+    let u = due-facts S F s e in
+    fun-ext (λ c. put-case (λ (v : View). viewsOf S (afterStore s F) c ≡ v) (viewsOf S F) (storeReplica s) (seenAfter s (viewsOf S F (storeReplica s))) c
+    (λ q. rw q (due-seen S F s (u .plan) (u .is-due)))
+    (λ q. unfold viewsOf in ap (view S c) (stored-off s F c q)))
