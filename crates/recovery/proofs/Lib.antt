@@ -10,3 +10,4 @@ pub mod OutcomeLaws
 pub mod Underway
 pub mod PlanCallLaws
 pub mod SeenAfterLaws
+pub mod NoteLaws

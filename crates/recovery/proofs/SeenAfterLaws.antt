@@ -15,7 +15,7 @@ use Rattle.image.specs.View.{View, Condition, Unused, Whole, condition, epochOf
 use Rattle.image.proofs.StoreLaws.{record-condition, record-condition-other, record-epoch, record-epoch-other}
 use Rattle.planner.specs.Setting.{Setting, viewsOf}
 use Rattle.protocol.specs.Store.{Store, storeEntry, storeRecord, storeBlank, storeReplica, afterStore}
-use Rattle.protocol.specs.Recovery.{after, next}
+use Rattle.protocol.specs.Recovery.{next}
 use Rattle.protocol.proofs.Effects.{view, Blanked, Mended, Appended, view-ext, blank-effect, mend-effect, write-effect, append-effect, fill-effect}
 use Rattle.protocol.proofs.Due.{ReadyPlan, LeaderDone, LeaderDue, FollowerDue, Due, by-leader, by-follower, leader-blank, leader-fetch, leader-write, follower-blank, follower-mend, follower-write, follower-fill, follower-append, due-facts}
 use Rattle.protocol.proofs.Slots.{answers-readable, below-differing, leader-entry, fetch-facts, donor-entry, like-entry, leader-fits, append-up}
@@ -109,8 +109,8 @@ due-seen S F s r (by-leader e d) = leader-seen S F s r d
 due-seen S F s r (by-follower e f d) = follower-seen S F s r d
 
 -- the other replicas are seen as before
-pub next-seen : (S : Setting) (F : Cluster) (s : Store) → next S F ≡ some s → viewsOf S (afterStore s F) ≡ viewsAfter (some s) (viewsOf S F)
-unfolding viewsAfter after
+pub next-seen : (S : Setting) (F : Cluster) (s : Store) → next S F ≡ some s → viewsOf S (afterStore s F) ≡ viewsAfter s (viewsOf S F)
+unfolding viewsAfter
 next-seen S F s e =
     let u = due-facts S F s e in
     fun-ext (λ c. put-case (λ (v : View). viewsOf S (afterStore s F) c ≡ v) (viewsOf S F) (storeReplica s) (seenAfter s (viewsOf S F (storeReplica s))) c

@@ -1,14 +1,15 @@
 -- What is seen of the replicas once a store has been made, by what was seen of them before.
-use Prim.Native.Nat.{ℕ, suc, _<_}
-use mathlib.Core.Bool.{cond}
-use mathlib.Core.Option.{Option}
+use Prim.Native.Nat.{ℕ, suc, _+_, _*_, _<_}
+use mathlib.Core.Path.{_≡_}
+use mathlib.Core.Bool.{true, cond}
 use lib.Dec.{ltb}
+use lib.ListN.{length, set}
 use Rattle.search.specs.Search.{put}
 use Rattle.image.specs.View.{Condition, Unused, Whole, View}
-use Rattle.protocol.specs.Store.{Store, storeEntry, storeRecord, storeBlank, storeReplica}
-use Rattle.protocol.specs.Recovery.{after}
-use Rattle.recovery.specs.declared.NextStore.{NextStore}
-use Rattle.recovery.specs.declared.NextStore.the-variants.{Nothing, Entry, Record, Blank}
+use Rattle.planner.specs.Setting.{Setting}
+use Rattle.planner.specs.Survey.{SurveyOf}
+use Rattle.planner.specs.declared.survey.Survey.{Survey}
+use Rattle.protocol.specs.Store.{Store, storeEntry, storeRecord, storeBlank, storeReplica, storeSlot}
 
 -- a view with a log so long, and slot k in this condition and epoch
 unfoldable pub withSlot : View → ℕ → ℕ → Condition → ℕ → View
@@ -21,12 +22,22 @@ seenAfter (storeRecord c k e) v = withSlot v k (cond (ltb k (v .length)) (v .len
 seenAfter (storeBlank c k) v = withSlot v k k Unused 0
 
 -- the replicas' views, after a store on one of them
-unfoldable pub viewsAfter : Option Store → (ℕ → View) → ℕ → View
-viewsAfter o W = after o W (λ s. put W (storeReplica s) (seenAfter s (W (storeReplica s))))
+unfoldable pub viewsAfter : Store → (ℕ → View) → ℕ → View
+viewsAfter s W = put W (storeReplica s) (seenAfter s (W (storeReplica s)))
 
--- a store lies in m slots of n replicas
-abbrev pub StoreWithin : ℕ → ℕ → NextStore → Type 0
-StoreWithin n m Nothing = Unit {0}
-StoreWithin n m (Entry c k d) = (c < n) × (k < m)
-StoreWithin n m (Record c k e) = (c < n) × (k < m)
-StoreWithin n m (Blank c k) = (c < n) × (k < m)
+-- r is the survey s but for replica c: its log is so long, and its slot k has condition number x and epoch e
+pub record SlotSet (s r : Survey) (c k l x e : ℕ) : Type 0 where
+  pub readables : r .readable ≡ s .readable
+  pub lengths : r .lengths ≡ set (s .lengths) c l
+  pub conditions : r .conditions ≡ set (s .conditions) (c * 64 + k) x
+  pub epochs : r .epochs ≡ set (s .epochs) (c * 64 + k) e
+  pub replicas : length (s .lengths) ≡ 7
+  pub slots : length (s .conditions) ≡ 448
+  pub more-slots : length (s .epochs) ≡ 448
+
+-- a survey of the replicas, for whatever views it was one, is r once the store is made
+abbrev pub Noted : Store → Survey → Survey → Type 0
+Noted t s r =
+    (S : Setting) (W : ℕ → View) (n leader : ℕ) → storeReplica t < n → storeSlot t < S .m → W (storeReplica t) .readable ≡ true
+    → SurveyOf S W n leader (s .readable) (s .lengths) (s .conditions) (s .epochs)
+    → SurveyOf S (viewsAfter t W) n leader (r .readable) (r .lengths) (r .conditions) (r .epochs)

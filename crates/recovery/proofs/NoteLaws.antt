@@ -1,0 +1,116 @@
+-- A survey with one slot changed is the survey of the views with that slot changed.
+use Prim.Native.Nat.{ℕ, suc, _+_, _*_, _≤_, _<_}
+use mathlib.Core.Path.{_≡_, refl, sym, _∙_, subst}
+use mathlib.Core.Bool.{Bool, true, false, cond}
+use mathlib.Core.List.{List}
+use mathlib.Core.Option.{Option, none, some}
+use native.Mathlib.Omega.{arith}
+use native.Mathlib.Decide.{ℕ-discrete}
+use lib.Dec.{ltb}
+use lib.ListN.{length, getD, set}
+use lib.Seq.{getD-set-same, getD-set-other}
+use borrow.Author.Tests.{lt-ltb, le-ltb}
+use Rattle.search.specs.Search.{put}
+use Rattle.search.proofs.SearchLaws.{put-same, put-other, put-case, put-back}
+use Rattle.image.specs.View.{View, Condition, Unused, Whole}
+use Rattle.image.specs.Seen.{conditionNumber}
+use Rattle.planner.specs.Setting.{Setting}
+use Rattle.planner.specs.Survey.{Surveyed, SurveyOf}
+use Rattle.planner.specs.declared.survey.Survey.{Survey}
+use Rattle.protocol.specs.Store.{Store, storeEntry, storeRecord, storeBlank, storeReplica, storeSlot}
+use Rattle.recovery.specs.Note.{withSlot, seenAfter, viewsAfter, SlotSet, Noted}
+
+module _ (S : Setting) (W : ℕ → View) (c k l : ℕ) (a : Condition) (e : ℕ) where
+  abbrev U : ℕ → View
+  U = put W c (withSlot (W c) k l a e)
+
+  readable-kept : (d : ℕ) → U d .readable ≡ W d .readable
+  unfolding withSlot
+  readable-kept d = put-case (λ (v : View). v .readable ≡ W d .readable) W c (withSlot (W c) k l a e) d (λ q. rw q) (λ q. refl)
+
+  module _ (n leader : ℕ) (s r : Survey) (t : SlotSet s r c k l (conditionNumber a) e) (cn : c < n) (km : k < S .m) (on : W c .readable ≡ true) (lm : l ≤ S .m)
+      (f : SurveyOf S W n leader (s .readable) (s .lengths) (s .conditions) (s .epochs)) where
+    length-set : (d : ℕ) → d < n → U d .readable ≡ true → getD (r .lengths) d 0 ≡ U d .length
+    unfolding withSlot
+    length-set d h ok =
+        rw (t .lengths) (put-case (λ (v : View). getD (set (s .lengths) c l) d 0 ≡ v .length) W c (withSlot (W c) k l a e) d
+        (λ q. rw q (getD-set-same (s .lengths) c l 0 (omega (arith, t .replicas, f .few))))
+        (λ q. getD-set-other (s .lengths) c d l 0 q ∙ f .surveyed .length-is d h (sym (readable-kept d) ∙ ok)))
+
+    condition-set : (d j : ℕ) → d < n → j < S .m → U d .readable ≡ true → getD (r .conditions) (d * 64 + j) 0 ≡ conditionNumber (U d .condition j)
+    unfolding withSlot
+    condition-set d j h b ok =
+        rw (t .conditions) (put-case (λ (v : View). getD (set (s .conditions) (c * 64 + k) (conditionNumber a)) (d * 64 + j) 0 ≡ conditionNumber (v .condition j)) W c (withSlot (W c) k l a e) d
+        (λ q. rw q (put-case (λ (x : Condition). getD (set (s .conditions) (c * 64 + k) (conditionNumber a)) (c * 64 + j) 0 ≡ conditionNumber x) (W c .condition) k a j
+        (λ p. rw p (getD-set-same (s .conditions) (c * 64 + k) (conditionNumber a) 0 (omega (arith, t .slots, f .few, f .slots-fit))))
+        (λ p. getD-set-other (s .conditions) (c * 64 + k) (c * 64 + j) (conditionNumber a) 0 (λ z. p (omega arith)) ∙ f .surveyed .condition-is c j cn b on)))
+        (λ q. getD-set-other (s .conditions) (c * 64 + k) (d * 64 + j) (conditionNumber a) 0 (λ z. q (omega (arith, f .slots-fit))) ∙ f .surveyed .condition-is d j h b (sym (readable-kept d) ∙ ok)))
+
+    epoch-set : (d j : ℕ) → d < n → j < S .m → U d .readable ≡ true → getD (r .epochs) (d * 64 + j) 0 ≡ U d .epoch j
+    unfolding withSlot
+    epoch-set d j h b ok =
+        rw (t .epochs) (put-case (λ (v : View). getD (set (s .epochs) (c * 64 + k) e) (d * 64 + j) 0 ≡ v .epoch j) W c (withSlot (W c) k l a e) d
+        (λ q. rw q (put-case (λ (x : ℕ). getD (set (s .epochs) (c * 64 + k) e) (c * 64 + j) 0 ≡ x) (W c .epoch) k e j
+        (λ p. rw p (getD-set-same (s .epochs) (c * 64 + k) e 0 (omega (arith, t .more-slots, f .few, f .slots-fit))))
+        (λ p. getD-set-other (s .epochs) (c * 64 + k) (c * 64 + j) e 0 (λ z. p (omega arith)) ∙ f .surveyed .epoch-is c j cn b on)))
+        (λ q. getD-set-other (s .epochs) (c * 64 + k) (d * 64 + j) e 0 (λ z. q (omega (arith, f .slots-fit))) ∙ f .surveyed .epoch-is d j h b (sym (readable-kept d) ∙ ok)))
+
+    pub slot-set : SurveyOf S U n leader (r .readable) (r .lengths) (r .conditions) (r .epochs)
+    unfolding withSlot
+    slot-set = record {
+      n-is = f .n-is;
+      leader-is = f .leader-is;
+      few = f .few;
+      leader-below = f .leader-below;
+      slots-fit = f .slots-fit;
+      leader-reads = readable-kept leader ∙ f .leader-reads;
+      logs-fit = λ d. put-case (λ (v : View). v .length ≤ S .m) W c (withSlot (W c) k l a e) d (λ q. lm) (λ q. f .logs-fit d);
+      surveyed = record {
+        readable-is = λ d h. rw (t .readables) (f .surveyed .readable-is d h) ∙ sym (readable-kept d);
+        length-is = length-set;
+        condition-is = condition-set;
+        epoch-is = epoch-set;
+      };
+    }
+
+-- ---- the three stores
+
+either : {m : ℕ} (t : Bool) (l x y : ℕ) → l ≡ cond t x y → x ≤ m → y ≤ m → l ≤ m
+either true l x y e h g = omega arith
+either false l x y e h g = omega arith
+
+-- an entry behind the log
+pub noted-entry : (s : Survey) (c k : ℕ) → getD (s .lengths) c 0 ≤ k → (d : ℕ) → Noted (storeEntry c k d) s s
+unfolding viewsAfter seenAfter storeReplica storeSlot
+noted-entry s c k h d S W n leader cn km ok f =
+    let i = f .surveyed .length-is c cn ok in
+    let z : put W c (cond (ltb k (W c .length)) (withSlot (W c) k (W c .length) Whole (W c .epoch k)) (W c)) ≡ W = rw (le-ltb k (W c .length) (omega arith)) (put-back W c) in
+    subst (λ (X : ℕ → View). SurveyOf S X n leader (s .readable) (s .lengths) (s .conditions) (s .epochs)) (sym z) f
+
+module _ (s r : Survey) (c k : ℕ) where
+  pub noted-blank : SlotSet s r c k k 0 0 → Noted (storeBlank c k) s r
+  unfolding viewsAfter seenAfter storeReplica storeSlot
+  noted-blank t S W n leader cn km ok f = slot-set S W c k k Unused 0 n leader s r t cn km ok (omega arith) f
+
+  pub noted-record : {l : ℕ} (e : ℕ) → l ≡ cond (ltb k (getD (s .lengths) c 0)) (getD (s .lengths) c 0) (suc k) → SlotSet s r c k l 1 e → Noted (storeRecord c k e) s r
+  unfolding viewsAfter seenAfter storeReplica storeSlot
+  noted-record {l} e q t S W n leader cn km ok f =
+      let i = f .surveyed .length-is c cn ok in
+      let z : l ≡ cond (ltb k (W c .length)) (W c .length) (suc k) = rw (← i) q in
+      rw (← z) (slot-set S W c k l Whole e n leader s r t cn km ok (either (ltb k (W c .length)) l (W c .length) (suc k) z (f .logs-fit c) km) f)
+
+  pub noted-mended : k < getD (s .lengths) c 0 → SlotSet s r c k (getD (s .lengths) c 0) 1 (getD (s .epochs) (c * 64 + k) 0) → (d : ℕ) → Noted (storeEntry c k d) s r
+  unfolding viewsAfter seenAfter storeReplica storeSlot
+  noted-mended h t d S W n leader cn km ok f =
+      let i = f .surveyed .length-is c cn ok in
+      let j = f .surveyed .epoch-is c k cn km ok in
+      rw (lt-ltb k (W c .length) (omega arith)) (slot-set S W c k (W c .length) Whole (W c .epoch k) n leader s r (rw (i, j) at t) cn km ok (f .logs-fit c) f)
+
+-- ---- the store that the enum names
+
+module _ (s r : Survey) (o : Option Store) where
+  pub noted-nothing : o ≡ none → (t : Store) → o ≡ some t → Noted t s r
+  noted-nothing e t h = absurd (let y : _≡_ {A = ℕ} 0 1 = cc in omega arith)
+
+  pub noted-same : {u : Store} → o ≡ some u → Noted u s r → (t : Store) → o ≡ some t → Noted t s r
+  noted-same {u} e f t h = let z : u ≡ t = cc in rw (← z) f
