@@ -11,3 +11,5 @@ pub mod Underway
 pub mod PlanCallLaws
 pub mod SeenAfterLaws
 pub mod NoteLaws
+pub mod ReadySurveyLaws
+pub mod Noting

@@ -2,12 +2,9 @@
 use Prim.Native.Nat.{ℕ, zero, suc, pred, _+_, _≤_, _<_}
 use mathlib.Core.Path.{_≡_, refl, sym, ap, _∙_}
 use mathlib.Core.Bool.{true, false}
-use mathlib.Core.List.{List, [], _∷_}
 use mathlib.Core.Option.{Option, none, some}
 use native.Mathlib.Omega.{arith}
 use native.Mathlib.Numerals.{add-one}
-use types.Run.{OneOf, miss}
-use denote.Enum.Declared.{tagOf}
 use lib.Dec.{leb}
 use lib.ListN.{length}
 use borrow.Author.Tests.{leb-true}
@@ -31,7 +28,6 @@ use Rattle.recovery.specs.declared.NextStore.{NextStore}
 use Rattle.recovery.specs.declared.NextStore.the-variants.{Nothing, Entry, Record, Blank}
 use Rattle.recovery.specs.declared.Outlook.{Outlook}
 use Rattle.recovery.specs.declared.Outlook.the-variants as outlook
-use Rattle.recovery.proofs.Outlook.{the-type}
 use Rattle.protocol.proofs.Due.{due-facts}
 use Rattle.protocol.proofs.Keeps.{due-target, due-slot, due-donor}
 use Rattle.recovery.proofs.OffsetLaws.{image-code}
@@ -107,12 +103,6 @@ module _ (c k : ℕ) where
 -- ---- by what stands of the recovery
 
 module _ (N : Numbers) (b : Bytes) where
-  pub outlook-none : (o : Outlook) → OutlookIs N b o → OneOf (0 ∷ 1 ∷ []) (tagOf the-type o) → refusalIn N b ≡ 0 → none ≡ nextIn (named N) b
-  unfolding nextIn
-  outlook-none (outlook.Refused r) i t e = absurd (i .1 (sym (i .0) ∙ e))
-  outlook-none (outlook.Waiting k) i t e = sym (waiting-none (named N) b (pred k) (i .2))
-  outlook-none (outlook.Ready s) i t e = absurd (miss (0 ∷ 1 ∷ []) 2 tt t)
-
   module _ {o : Outlook} {r : ℕ} (q : o ≡ outlook.Refused r) (i : OutlookIs N b o) where
     off : OutlookIs N b (outlook.Refused r)
     off = rw q at i

@@ -1,6 +1,6 @@
 -- What the contracts of `recovery` cite.
 pub mod NextStore
 pub mod Look
-pub mod Note
 pub mod Answers
 pub mod PlanCall
+pub mod Note

@@ -1,15 +1,20 @@
 -- What is seen of the replicas once a store has been made, by what was seen of them before.
-use Prim.Native.Nat.{ℕ, suc, _+_, _*_, _<_}
+use Prim.Native.Nat.{ℕ, suc, _+_, _*_, _-_, _<_}
 use mathlib.Core.Path.{_≡_}
 use mathlib.Core.Bool.{true, cond}
 use lib.Dec.{ltb}
 use lib.ListN.{length, set}
 use Rattle.search.specs.Search.{put}
+use Rattle.slices.specs.Parts.{Bytes}
 use Rattle.image.specs.View.{Condition, Unused, Whole, View}
 use Rattle.planner.specs.Setting.{Setting}
+use Rattle.planner.specs.Rules.{Ready, answer, end}
+use Rattle.planner.specs.Plan.{viewsIn}
 use Rattle.planner.specs.Survey.{SurveyOf}
 use Rattle.planner.specs.declared.survey.Survey.{Survey}
 use Rattle.protocol.specs.Store.{Store, storeEntry, storeRecord, storeBlank, storeReplica, storeSlot}
+use Rattle.protocol.specs.Call.{Numbers, named, refusalIn}
+use Rattle.recovery.specs.Answers.{numbers}
 
 -- a view with a log so long, and slot k in this condition and epoch
 unfoldable pub withSlot : View → ℕ → ℕ → Condition → ℕ → View
@@ -41,3 +46,14 @@ Noted t s r =
     (S : Setting) (W : ℕ → View) (n leader : ℕ) → storeReplica t < n → storeSlot t < S .m → W (storeReplica t) .readable ≡ true
     → SurveyOf S W n leader (s .readable) (s .lengths) (s .conditions) (s .epochs)
     → SurveyOf S (viewsAfter t W) n leader (r .readable) (r .lengths) (r .conditions) (r .epochs)
+
+-- a survey of a cluster that is not refused, and whose plan is ready
+pub record ReadySurvey (N : Numbers) (b : Bytes) (s : Survey) : Type 0 where
+  pub accepts : refusalIn N b ≡ 0
+  pub sees : SurveyOf (named N) (viewsIn (named N) b) (N .n) (N .leader - 1) (s .readable) (s .lengths) (s .conditions) (s .epochs)
+  pub ready : answer (named N) (viewsIn (named N) b) ≡ Ready (end (named N) (viewsIn (named N) b))
+
+-- the same, whatever the present set was
+pub record SomeReadySurvey (n m leader : ℕ) (b : Bytes) (s : Survey) : Type 0 where
+  pub present : ℕ
+  pub is : ReadySurvey (numbers n m leader present) b s

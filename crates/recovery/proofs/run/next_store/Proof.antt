@@ -1,30 +1,44 @@
--- `next_store` has a store only where the plan is ready.
+-- `next_store` plans again from the survey.
+use Rattle.protocol.specs.Call.{named}
 use Rattle.recovery.specs.Answers.{numbers}
-use Rattle.recovery.proofs.OutcomeLaws.{outlook-none, ready-next}
+use Rattle.recovery.proofs.OutlookLaws.{from-one, named-m, in-range, end-fits}
+use Rattle.recovery.proofs.ReadySurveyLaws.{shows-next}
 use native.Mathlib.Omega.{arith}
-use borrow.Author.Needs.{needs}
 use Rattle.recovery.proofs.run.next_store.Statement.{statement}
 use Rattle.recovery.proofs.run.next_store.Tie as tie
 
-view-recovery-requires : tie.Need-view-recovery-requires
-view-recovery-requires c κs = search needs
+sub-plan-survey : tie.Need-sub-plan-survey
+sub-plan-survey c =
+    let a = c .before .args in
+    let v = c .before .pre in
+    from-one (numbers (a .n) (a .m) (a .leader) (v .present)) (a .cluster .now) (v .is .accepts)
 
-enum-known-store : tie.Need-enum-known-store
-enum-known-store c = search needs
+plan-survey-requires : tie.Need-plan-survey-requires
+plan-survey-requires c κs =
+    let a = c .before .args in
+    let v = c .before .pre in
+    let r = in-range (numbers (a .n) (a .m) (a .leader) (v .present)) (a .cluster .now) (v .is .accepts) (v .is .sees) in
+    (omega arith, omega arith, omega arith)
+
+sub-first-store : tie.Need-sub-first-store
+sub-first-store c =
+    let a = c .before .before .args in
+    let v = c .before .before .pre in
+    from-one (numbers (a .n) (a .m) (a .leader) (v .present)) (a .cluster .now) (v .is .accepts)
+
+first-store-requires : tie.Need-first-store-requires
+first-store-requires c κs =
+    let a = c .before .before .args in
+    let v = c .before .before .pre in
+    let N = numbers (a .n) (a .m) (a .leader) (v .present) in
+    let b = a .cluster .now in
+    (in-range N b (v .is .accepts) (v .is .sees), end-fits N b (v .is .accepts) (v .is .sees) (c .plan-survey .ensures (named N) _ (v .is .sees)))
 
 returns : tie.Need-returns
-returns c =
+returns c = λ present v.
     let a = c .before .before .before .args in
-    let N = numbers (a .n) (a .m) (a .leader) (a .present) in
-    let b = a .cluster .now in
-    outlook-none N b (c .before .view-recovery .result) (c .before .view-recovery .ensures) (c .match .keys2)
-
-returns-2 : tie.Need-returns-2
-returns-2 c =
-    let a = c .before .before .before .before .before .args in
-    let N = numbers (a .n) (a .m) (a .leader) (a .present) in
-    let b = a .cluster .now in
-    λ e. ready-next N b (c .before .store .given .1) (c .before .before .before .view-recovery .ensures)
+    let N = numbers (a .n) (a .m) (a .leader) present in
+    shows-next N (a .cluster .now) v (c .first-store .ensures (named N) (named-m N) (v .sees) (c .before .plan-survey .ensures (named N) _ (v .sees)))
 
 pub next-store-spec : {M : Type 1} → statement M
-next-store-spec = tie.close (tie.spec view-recovery-requires enum-known-store returns returns-2)
+next-store-spec = tie.close (tie.spec sub-plan-survey plan-survey-requires sub-first-store first-store-requires returns)

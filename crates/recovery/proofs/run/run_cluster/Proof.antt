@@ -1,80 +1,200 @@
--- `run_cluster` runs if the cluster is not refused and does not wait.
+-- `run_cluster` reads the images once, and notes each store that it makes.
+use Prim.Native.Nat.{_-_}
+use mathlib.Core.Path.{_≡_, refl, sym, _∙_}
+use borrow.Author.Tests.{not-true, not-false}
+use Rattle.protocol.specs.Call.{named}
 use Rattle.recovery.specs.Answers.{numbers}
-use Rattle.recovery.proofs.OutcomeLaws.{refused-run, refused-run-bytes, waiting-run, waiting-run-bytes, ready-accepts, ready-next, ready-ran, ready-run-bytes}
-use native.Mathlib.Omega.{arith}
+use Rattle.recovery.specs.NextStore.{storeOf}
+use Rattle.recovery.proofs.OutcomeLaws.{refused-run, refused-run-bytes, waiting-run, waiting-run-bytes}
+use Rattle.recovery.proofs.OutlookLaws.{from-one, named-m, in-range, end-fits, waits, readies}
+use Rattle.recovery.proofs.Noting.{Noting, noting-start, noting-fits, noting-within, noted-ready, noting-more, noting-size, noting-recovered, noting-ends}
 use borrow.Author.Needs.{needs}
+use native.Mathlib.Omega.{arith}
 use Rattle.recovery.proofs.run.run_cluster.Statement.{statement}
 use Rattle.recovery.proofs.run.run_cluster.Tie as tie
 
-view-recovery-requires : tie.Need-view-recovery-requires
-view-recovery-requires c κs = search needs
+abbrev Inv-loop : tie.InvT-loop
+Inv-loop cluster₀ n m leader present budget refusal survey₀ store₀ made₀ cluster survey store made = Noting (numbers n m leader present) cluster₀ store₀ budget made cluster survey store
 
-enum-known-refusal : tie.Need-enum-known-refusal
-enum-known-refusal c = search needs
+abbrev μ-loop : tie.MeasureT-loop
+μ-loop cluster₀ n m leader present budget refusal survey₀ store₀ made₀ cluster survey store made = budget - made
 
-enum-known-slot : tie.Need-enum-known-slot
-enum-known-slot c = search needs
+view-cluster-requires : tie.Need-view-cluster-requires Inv-loop μ-loop
+view-cluster-requires c κs = search needs
 
-enum-known-store : tie.Need-enum-known-store
-enum-known-store c = search needs
-
-run-ready-requires : tie.Need-run-ready-requires
-run-ready-requires c κs =
-    let a = c .before .before .before .before .before .before .before .args in
-    let N = numbers (a .n) (a .m) (a .leader) (a .present) in
-    let b = a .cluster .now in
-    let q = c .before .before .store .given .1 in
-    let i = c .before .before .before .before .view-recovery .ensures in
-    (ready-accepts N b q i, ready-next N b q i)
-
-same-length : tie.Need-same-length
+same-length : tie.Need-same-length Inv-loop μ-loop
 same-length c = search needs
 
-returns : tie.Need-returns
+returns : tie.Need-returns Inv-loop μ-loop
 returns c =
-    let a = c .before .before .before .before .before .before .args in
+    let a = c .before .before .before .before .args in
     let N = numbers (a .n) (a .m) (a .leader) (a .present) in
     let b = a .cluster .now in
-    let q = c .before .refusal .given .1 in
-    let i = c .before .before .before .view-recovery .ensures in
-    (refused-run N b q i (a .budget), refused-run-bytes N b q i (a .budget))
+    let v = c .before .view-cluster .ensures in
+    (refused-run N b refl (sym (v .0), c .if1 .taken) (a .budget), refused-run-bytes N b refl (sym (v .0), c .if1 .taken) (a .budget))
 
-same-length-2 : tie.Need-same-length-2
+sub-plan-survey : tie.Need-sub-plan-survey Inv-loop μ-loop
+sub-plan-survey c =
+    let a = c .before .before .before .before .before .args in
+    let N = numbers (a .n) (a .m) (a .leader) (a .present) in
+    let b = a .cluster .now in
+    let v = c .before .before .view-cluster .ensures in
+    let t = c .before .if1 .left in
+    let e = sym (v .0) ∙ t in
+    let s = v .1 t in
+    from-one N b e
+
+plan-survey-requires : tie.Need-plan-survey-requires Inv-loop μ-loop
+plan-survey-requires c κs =
+    let a = c .before .before .before .before .before .args in
+    let N = numbers (a .n) (a .m) (a .leader) (a .present) in
+    let b = a .cluster .now in
+    let v = c .before .before .view-cluster .ensures in
+    let t = c .before .if1 .left in
+    let e = sym (v .0) ∙ t in
+    let s = v .1 t in
+    let r = in-range N b e s in
+    (omega arith, omega arith, omega arith)
+
+add-t17 : tie.Need-add-t17 Inv-loop μ-loop
+add-t17 c = search needs
+
+same-length-2 : tie.Need-same-length-2 Inv-loop μ-loop
 same-length-2 c = search needs
 
-returns-2 : tie.Need-returns-2
+returns-2 : tie.Need-returns-2 Inv-loop μ-loop
 returns-2 c =
-    let a = c .before .before .before .before .before .before .args in
+    let a = c .before .before .before .before .before .before .before .before .before .args in
     let N = numbers (a .n) (a .m) (a .leader) (a .present) in
     let b = a .cluster .now in
-    let q = c .before .slot .given .1 in
-    let i = c .before .before .before .view-recovery .ensures in
-    (waiting-run N b q i (a .budget), waiting-run-bytes N b q i (a .budget))
+    let v = c .before .before .before .before .before .before .view-cluster .ensures in
+    let t = c .before .before .before .before .before .if1 .left in
+    let e = sym (v .0) ∙ t in
+    let s = v .1 t in
+    let w = waits N b e s (c .before .before .before .plan-survey .ensures (named N) _ s) (c .before .if2 .taken) in
+    (waiting-run N b refl w (a .budget), waiting-run-bytes N b refl w (a .budget))
 
-same-length-3 : tie.Need-same-length-3
-same-length-3 c = search needs
+sub-first-store : tie.Need-sub-first-store Inv-loop μ-loop
+sub-first-store c =
+    let a = c .before .before .before .before .before .before .before .before .before .args in
+    let N = numbers (a .n) (a .m) (a .leader) (a .present) in
+    let b = a .cluster .now in
+    let v = c .before .before .before .before .before .before .view-cluster .ensures in
+    let t = c .before .before .before .before .before .if1 .left in
+    let e = sym (v .0) ∙ t in
+    let s = v .1 t in
+    from-one N b e
 
-returns-3 : tie.Need-returns-3
-returns-3 c =
+first-store-requires : tie.Need-first-store-requires Inv-loop μ-loop
+first-store-requires c κs =
+    let a = c .before .before .before .before .before .before .before .before .before .args in
+    let N = numbers (a .n) (a .m) (a .leader) (a .present) in
+    let b = a .cluster .now in
+    let v = c .before .before .before .before .before .before .view-cluster .ensures in
+    let t = c .before .before .before .before .before .if1 .left in
+    let e = sym (v .0) ∙ t in
+    let s = v .1 t in
+    (in-range N b e s, end-fits N b e s (c .before .before .before .plan-survey .ensures (named N) _ s))
+
+loop-holds : tie.Need-loop-holds Inv-loop μ-loop
+loop-holds c =
     let a = c .before .before .before .before .before .before .before .before .before .before .args in
     let N = numbers (a .n) (a .m) (a .leader) (a .present) in
     let b = a .cluster .now in
-    let q = c .before .before .before .before .before .store .given .1 in
-    let i = c .before .before .before .before .before .before .before .view-recovery .ensures in
-    (ready-ran N b q i (a .budget) (c .before .before .run-ready .ensures .0), ready-run-bytes N b q i (a .budget) (c .before .before .run-ready .ensures .1))
+    let v = c .before .before .before .before .before .before .before .view-cluster .ensures in
+    let t = c .before .before .before .before .before .before .if1 .left in
+    let e = sym (v .0) ∙ t in
+    let s = v .1 t in
+    let p = c .before .before .before .before .plan-survey .ensures (named N) _ s in
+    let i = readies N b e s p (c .before .before .if2 .left) (c .first-store .result) (c .first-store .ensures (named N) (named-m N) s p) in
+    noting-start N b (a .budget) _ _ i (record { accepts = e; sees = s; ready = i .1 })
+
+is-outstanding-requires : tie.Need-is-outstanding-requires Inv-loop μ-loop
+is-outstanding-requires c κs = search needs
+
+same-length-3 : tie.Need-same-length-3 Inv-loop μ-loop
+same-length-3 c =
+    let a = c .before .before .before .before .before .before .before .before .before .before .before .before .before .before .args in
+    let N = numbers (a .n) (a .m) (a .leader) (a .present) in
+    noting-size N (c .before .before .before .loop .inv)
+
+returns-3 : tie.Need-returns-3 Inv-loop μ-loop
+returns-3 c =
+    let a = c .before .before .before .before .before .before .before .before .before .before .before .before .before .before .args in
+    let N = numbers (a .n) (a .m) (a .leader) (a .present) in
+    noting-recovered N (c .before .before .before .loop .inv) (sym (c .before .is-outstanding .ensures) ∙ not-true _ (c .if3 .taken))
+
+make-store-requires : tie.Need-make-store-requires Inv-loop μ-loop
+make-store-requires c κs =
+    let a = c .before .before .before .before .before .before .before .before .before .before .before .before .before .before .before .args in
+    let N = numbers (a .n) (a .m) (a .leader) (a .present) in
+    noting-fits N (c .before .before .before .before .loop .inv)
+
+add-made : tie.Need-add-made Inv-loop μ-loop
+add-made c = search needs
+
+note-store-requires : tie.Need-note-store-requires Inv-loop μ-loop
+note-store-requires c κs =
+    let a = c .before .before .before .before .before .before .before .before .before .before .before .before .before .before .before .before .before .before .args in
+    let N = numbers (a .n) (a .m) (a .leader) (a .present) in
+    noting-within N (c .before .before .before .before .before .before .before .loop .inv)
+
+next-store-requires : tie.Need-next-store-requires Inv-loop μ-loop
+next-store-requires c κs =
+    let a = c .before .before .before .before .before .before .before .before .before .before .before .before .before .before .before .before .before .before .before .before .args in
+    let N = numbers (a .n) (a .m) (a .leader) (a .present) in
+    record { present = a .present; is = noted-ready N (c .before .before .before .before .before .before .before .before .before .loop .inv) (sym (c .before .before .before .before .before .before .before .is-outstanding .ensures) ∙ not-false _ (c .before .before .before .before .before .before .if3 .left)) (c .before .before .before .before .make-store .ensures) (c .before .note-store .ensures) }
+
+loop-less : tie.Need-loop-less Inv-loop μ-loop
+loop-less c = search needs
+
+loop-again : tie.Need-loop-again Inv-loop μ-loop
+loop-again c =
+    let a = c .before .before .before .before .before .before .before .before .before .before .before .before .before .before .before .before .before .before .before .before .before .args in
+    let N = numbers (a .n) (a .m) (a .leader) (a .present) in
+    noting-more N (c .before .before .before .before .before .before .before .before .before .before .loop .inv) (sym (c .before .before .before .before .before .before .before .before .is-outstanding .ensures) ∙ not-false _ (c .before .before .before .before .before .before .before .if3 .left)) (c .before .before .before .before .before .make-store .ensures) (c .before .before .note-store .ensures) (c .before .before .before .before .before .before .before .before .before .loop-test .taken) (c .next-store .ensures (a .present))
+
+run-answer-requires : tie.Need-run-answer-requires Inv-loop μ-loop
+run-answer-requires c κs = search needs
+
+same-length-4 : tie.Need-same-length-4 Inv-loop μ-loop
+same-length-4 c =
+    let a = c .before .before .before .before .before .before .before .before .before .before .before .before .before .args in
+    let N = numbers (a .n) (a .m) (a .leader) (a .present) in
+    noting-size N (c .before .before .loop .inv)
+
+returns-4 : tie.Need-returns-4 Inv-loop μ-loop
+returns-4 c =
+    let a = c .before .before .before .before .before .before .before .before .before .before .before .before .before .args in
+    let N = numbers (a .n) (a .m) (a .leader) (a .present) in
+    noting-ends N (c .before .before .loop .inv) (c .before .loop-test .left) (c .run-answer .ensures)
 
 pub run-cluster-spec : {M : Type 1} → statement M
 run-cluster-spec =
     tie.close
     (tie.spec
-    view-recovery-requires
-    enum-known-refusal
-    enum-known-slot
-    enum-known-store
-    run-ready-requires
+    Inv-loop
+    μ-loop
+    view-cluster-requires
     same-length
     returns
+    sub-plan-survey
+    plan-survey-requires
+    add-t17
     same-length-2
     returns-2
+    sub-first-store
+    first-store-requires
+    loop-holds
+    is-outstanding-requires
     same-length-3
-    returns-3)
+    returns-3
+    make-store-requires
+    add-made
+    note-store-requires
+    next-store-requires
+    loop-less
+    loop-again
+    run-answer-requires
+    same-length-4
+    returns-4)

@@ -1,0 +1,64 @@
+-- A run that notes its stores: it is underway, and its survey is that of the cluster as it is now.
+use Prim.Native.Nat.{ℕ, _+_, _≤_, _<_}
+use mathlib.Core.Path.{_≡_, refl, _∙_}
+use mathlib.Core.Bool.{true, false}
+use mathlib.Core.Option.{some}
+use lib.ListN.{length}
+use Rattle.slices.specs.Parts.{Bytes}
+use Rattle.planner.specs.declared.survey.Survey.{Survey}
+use Rattle.protocol.specs.Store.{Store, storeReplica, storeSlot}
+use Rattle.protocol.specs.Recovery.{after, isSome}
+use Rattle.protocol.specs.StepBytes.{afterStoreBytes, nextIn}
+use Rattle.protocol.specs.Call.{run, Numbers, named}
+use Rattle.protocol.specs.CallResult.{Result, recovered, runResult, callResult, callBytes}
+use Rattle.recovery.specs.NextStore.{storeOf, StoreFits}
+use Rattle.recovery.specs.Answers.{OutlookIs}
+use Rattle.recovery.specs.Note.{Noted, ReadySurvey}
+use Rattle.recovery.specs.declared.NextStore.{NextStore}
+use Rattle.recovery.specs.declared.Outlook.the-variants as outlook
+use Rattle.recovery.proofs.OutcomeLaws.{slots-few, store-fits, ready-ran, ready-run-bytes}
+use Rattle.recovery.proofs.Underway.{Underway, underway-start, underway-more, underway-rests, underway-recovered, underway-ends, underway-answers, underway-size}
+use Rattle.recovery.proofs.ReadySurveyLaws.{store-within, ready-after}
+
+-- from b₀ and its first store, with a budget; so many made; the bytes as they are now, their survey, and the store that is outstanding
+pub record Noting (N : Numbers) (b₀ : Bytes) (t₀ : NextStore) (budget made : ℕ) (b : Bytes) (s : Survey) (t : NextStore) : Type 0 where
+  pub began : OutlookIs N b₀ (outlook.Ready t₀)
+  pub underway : Underway N b₀ budget made b t
+  pub surveys : ReadySurvey N b s
+
+pub noting-start : (N : Numbers) (b : Bytes) (budget : ℕ) (s : Survey) (t : NextStore) → OutlookIs N b (outlook.Ready t) → ReadySurvey N b s → Noting N b t budget 0 b s t
+noting-start N b budget s t i v = record { began = i; underway = underway-start N b budget t (i .0) (i .2); surveys = v }
+
+module _ (N : Numbers) {b₀ b : Bytes} {t₀ t : NextStore} {budget made : ℕ} {s : Survey} (g : Noting N b₀ t₀ budget made b s t) where
+  pub noting-fits : (N .m ≤ 64) × StoreFits (N .m) (length b) t
+  noting-fits = let e = g .surveys .accepts in (slots-few N b e, store-fits N b e t (g .underway .is-next))
+
+  pub noting-within : (u : Store) → storeOf t ≡ some u → (storeReplica u < 7) × (storeSlot u < 64)
+  noting-within = store-within N b (g .surveys) (storeOf t) (g .underway .is-next)
+
+  module _ (some-left : isSome (storeOf t) ≡ true) {a : Bytes} (x : a ≡ after (storeOf t) b (λ u. afterStoreBytes (N .m) u b))
+      {r : Survey} (f : (u : Store) → storeOf t ≡ some u → Noted u s r) where
+    pub noted-ready : ReadySurvey N a r
+    noted-ready = ready-after N b (g .surveys) (storeOf t) (g .underway .is-next) some-left x f
+
+    pub noting-more : {v : NextStore} → made < budget → (ReadySurvey N a r → storeOf v ≡ nextIn (named N) a) → Noting N b₀ t₀ budget (made + 1) a r v
+    noting-more h next = record {
+      began = g .began;
+      underway = underway-more N (g .underway) h some-left x (λ e. next noted-ready);
+      surveys = noted-ready;
+    }
+
+  pub noting-size : length b ≡ length b₀
+  noting-size = underway-size N (g .underway) (g .began .0)
+
+  pub noting-recovered : isSome (storeOf t) ≡ false → (recovered made ≡ callResult N (run budget) b₀) × (b ≡ callBytes N (run budget) b₀)
+  noting-recovered h = (
+    ready-ran N b₀ {s = t₀} refl (g .began) budget (underway-recovered N (g .underway) h),
+    ready-run-bytes N b₀ {s = t₀} refl (g .began) budget (underway-rests N (g .underway) h),
+  )
+
+  pub noting-ends : {r : Result} → budget ≤ made → r ≡ runResult made (storeOf t) → (r ≡ callResult N (run budget) b₀) × (b ≡ callBytes N (run budget) b₀)
+  noting-ends h e = (
+    ready-ran N b₀ {s = t₀} refl (g .began) budget (e ∙ underway-answers N (g .underway) h),
+    ready-run-bytes N b₀ {s = t₀} refl (g .began) budget (underway-ends N (g .underway) h),
+  )

@@ -1,0 +1,100 @@
+-- A ready survey: the store that it shows is the next one, and noted, it is that of the cluster afterwards.
+use Prim.Native.Nat.{ℕ, _-_, _<_}
+use mathlib.Core.Path.{_≡_, refl, sym, ap, _∙_}
+use mathlib.Core.Bool.{true, true≢false}
+use mathlib.Core.Option.{Option, none, some}
+use native.Mathlib.Omega.{arith}
+use lib.ListN.{length}
+use Rattle.slices.specs.Parts.{Bytes}
+use Rattle.image.specs.View.{View}
+use Rattle.image.specs.Cluster.{Cluster, decode}
+use Rattle.planner.specs.Setting.{Setting, settingOf, viewsOf}
+use Rattle.planner.specs.Rules.{Ready, answer, end}
+use Rattle.planner.specs.Plan.{viewsIn}
+use Rattle.planner.specs.Survey.{SurveyOf}
+use Rattle.planner.specs.declared.survey.Survey.{Survey}
+use Rattle.protocol.specs.Store.{Store, storeReplica, storeSlot, afterStore}
+use Rattle.protocol.specs.Recovery.{_or_, leaderStore, followersStore, isSome, ifReady, next, after}
+use Rattle.protocol.specs.StepBytes.{afterStoreBytes, nextIn}
+use Rattle.protocol.specs.Call.{Numbers, named, refusalIn}
+use Rattle.protocol.proofs.Due.{ready-facts, due-facts}
+use Rattle.protocol.proofs.Keeps.{due-target, due-slot}
+use Rattle.protocol.proofs.PlanLaws.{ready-intro}
+use Rattle.protocol.proofs.StepLaws.{next-means}
+use Rattle.protocol.proofs.Runs.{step-law}
+use Rattle.demand3.proofs.CallLaws.{accepted, refusal-same}
+use Rattle.recovery.specs.Note.{viewsAfter, Noted, ReadySurvey}
+use Rattle.recovery.proofs.OutcomeLaws.{slots-few}
+use Rattle.recovery.proofs.SeenAfterLaws.{next-seen}
+
+module _ (N : Numbers) (b : Bytes) {s : Survey} (v : ReadySurvey N b s) where
+  abbrev S : Setting
+  S = named N
+
+  abbrev F : Cluster
+  F = decode (S .n) (S .m) b
+
+  pub shows-next : {o : Option Store} → o ≡ (leaderStore S (viewsIn S b) or followersStore S F) → o ≡ nextIn S b
+  unfolding nextIn next ifReady viewsIn
+  shows-next x = let r = v .ready in x ∙ rw r
+
+  low : S .leader < S .n
+  unfolding settingOf
+  low = accepted N b (v .accepts) .low
+
+  module _ (u : Store) (x : some u ≡ nextIn S b) where
+    is-next : next S F ≡ some u
+    unfolding nextIn
+    is-next = sym x
+
+    replica-below : storeReplica u < S .n
+    replica-below = let d = due-facts S F u is-next in due-target S F u low (d .plan) (d .is-due) .below
+
+    slot-below : storeSlot u < S .m
+    slot-below = due-slot S F u (due-facts S F u is-next .is-due)
+
+    pub store-below : (storeReplica u < 7) × (storeSlot u < 64)
+    unfolding settingOf
+    store-below = (omega (arith, replica-below, v .sees .few), omega (arith, slot-below, slots-few N b (v .accepts)))
+
+    reads : viewsIn S b (storeReplica u) .readable ≡ true
+    unfolding viewsIn
+    reads = let d = due-facts S F u is-next in due-target S F u low (d .plan) (d .is-due) .ok
+
+    module _ (a : Bytes) (y : a ≡ afterStoreBytes (N .m) u b) where
+      means : decode (S .n) (S .m) a ≡ afterStore u F
+      unfolding settingOf
+      means = rw y (next-means S low b (accepted N b (v .accepts) .size) u is-next .is)
+
+      views-next : viewsIn S a ≡ viewsAfter u (viewsIn S b)
+      unfolding viewsIn
+      views-next = ap (viewsOf S) means ∙ next-seen S F u is-next
+
+      answer-next : answer S (viewsIn S a) ≡ answer S (viewsIn S b)
+      unfolding viewsIn
+      answer-next = ap (λ (G : Cluster). answer S (viewsOf S G)) means ∙ step-law S F u low is-next .answers
+
+      accepts-next : refusalIn N a ≡ 0
+      unfolding viewsIn settingOf
+      accepts-next =
+          let w = next-means S low b (accepted N b (v .accepts) .size) u is-next in
+          let l : length a ≡ length b = rw y (w .size ∙ sym (accepted N b (v .accepts) .size)) in
+          refusal-same N a b l (ap (λ (G : Cluster). viewsOf S G (S .leader) .readable) means ∙ step-law S F u low is-next .readables (S .leader)) ∙ v .accepts
+
+      ready-noted : {r : Survey} → Noted u s r → ReadySurvey N a r
+      unfolding settingOf
+      ready-noted f = record {
+        accepts = accepts-next;
+        sees = rw views-next (f S (viewsIn S b) (N .n) (N .leader - 1) replica-below slot-below reads (v .sees));
+        ready = ready-intro S (viewsIn S a) (ready-facts S (viewsIn S a) (end S (viewsIn S b)) (answer-next ∙ v .ready));
+      }
+
+  pub store-within : (o : Option Store) → o ≡ nextIn S b → (u : Store) → o ≡ some u → (storeReplica u < 7) × (storeSlot u < 64)
+  store-within o x u e = store-below u (sym e ∙ x)
+
+  -- the survey that is noted is that of the cluster after the store
+  pub ready-after : {a : Bytes} {r : Survey} (o : Option Store) → o ≡ nextIn S b → isSome o ≡ true
+      → a ≡ after o b (λ u. afterStoreBytes (N .m) u b) → ((u : Store) → o ≡ some u → Noted u s r) → ReadySurvey N a r
+  unfolding isSome after
+  ready-after none x h y f = absurd (true≢false (sym h))
+  ready-after (some u) x h y f = ready-noted u x _ y (f u refl)
