@@ -13,3 +13,4 @@ pub mod SeenAfterLaws
 pub mod NoteLaws
 pub mod ReadySurveyLaws
 pub mod Noting
+pub mod RestLaws

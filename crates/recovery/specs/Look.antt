@@ -1,13 +1,15 @@
 -- What the code of `next` is given of one replica: of use to its own functions only.
 use Prim.Native.Nat.{ℕ, _+_, _*_, _<_, _≤_}
 use mathlib.Core.Path.{_≡_}
-use mathlib.Core.Bool.{true}
+use mathlib.Core.Bool.{true, false}
 use mathlib.Core.List.{List}
+use mathlib.Core.Option.{none}
 use lib.ListN.{getD}
 use Rattle.image.specs.View.{View}
 use Rattle.image.specs.Seen.{conditionNumber}
-use Rattle.image.specs.Cluster.{imageAt}
-use Rattle.planner.specs.Setting.{has}
+use Rattle.image.specs.Cluster.{Cluster, imageAt}
+use Rattle.planner.specs.Setting.{Setting, has, viewsOf}
+use Rattle.protocol.specs.Recovery.{leaderStore, isSome, due}
 
 -- a survey's numbers of replica c are those of its view
 pub record Looked (m : ℕ) (v : View) (c length : ℕ) (conditions epochs : List ℕ) : Type 0 where
@@ -24,3 +26,8 @@ pub record InRange (n m leader readable : ℕ) (lengths : List ℕ) (size : ℕ)
   pub size-is : size ≡ imageAt m n
   pub leader-fits : getD lengths leader 0 ≤ m
   pub log-fits : (c : ℕ) → c < n → has readable c ≡ true → getD lengths c 0 ≤ m
+
+-- neither the leader nor a follower below c has a store outstanding
+pub record RestBelow (S : Setting) (F : Cluster) (c : ℕ) : Type 0 where
+  pub leader-rests : leaderStore S (viewsOf S F) ≡ none
+  pub followers-rest : (j : ℕ) → j < c → isSome (due S F j) ≡ false
