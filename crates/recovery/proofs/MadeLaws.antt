@@ -3,12 +3,15 @@ use Prim.Native.Nat.{ℕ, suc, _+_}
 use mathlib.Core.Path.{_≡_, refl}
 use mathlib.Core.Bool.{true, false}
 use mathlib.Core.List.{List, [], _∷_}
+use mathlib.Core.Option.{Option, none, some}
+use native.Mathlib.Omega.{arith}
 use types.Run.{OneOf, miss}
 use denote.Enum.Declared.{tagOf}
 use Rattle.slices.specs.Parts.{Bytes, part, spliced}
 use Rattle.record.specs.Layout.{recordBytes, blankRecord}
 use Rattle.image.specs.Image.{recordAt, entryAt}
 use Rattle.image.specs.Cluster.{imageAt}
+use Rattle.protocol.specs.Store.{Store, storeReplica}
 use Rattle.protocol.specs.Recovery.{after, isSome}
 use Rattle.protocol.specs.StepBytes.{afterStoreBytes}
 use Rattle.recovery.specs.NextStore.{storeOf}
@@ -48,3 +51,12 @@ is-some Nothing h = absurd (miss (1 ∷ 2 ∷ 3 ∷ []) 0 tt h)
 is-some (Entry c k d) h = refl
 is-some (Record c k e) h = refl
 is-some (Blank c k) h = refl
+
+-- ---- the replica that a store is made on
+
+module _ {r : ℕ} (o : Option Store) where
+  pub replica-none : o ≡ none → (t : Store) → o ≡ some t → r ≡ storeReplica t
+  replica-none e t h = absurd (let z : _≡_ {A = ℕ} 0 1 = cc in omega arith)
+
+  pub replica-some : {u : Store} → o ≡ some u → r ≡ storeReplica u → (t : Store) → o ≡ some t → r ≡ storeReplica t
+  replica-some {u} e q t h = let z : u ≡ t = cc in rw (← z) q

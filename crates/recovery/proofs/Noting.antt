@@ -1,10 +1,12 @@
 -- A run that notes its stores: it is underway, and its survey is that of the cluster as it is now.
-use Prim.Native.Nat.{ℕ, _+_, _≤_, _<_}
+use Prim.Native.Nat.{ℕ, _+_, _-_, _≤_, _<_}
 use mathlib.Core.Path.{_≡_, refl, _∙_}
 use mathlib.Core.Bool.{true, false}
 use mathlib.Core.Option.{some}
 use lib.ListN.{length}
 use Rattle.slices.specs.Parts.{Bytes}
+use Rattle.image.specs.Cluster.{decode}
+use Rattle.planner.specs.Setting.{settingOf}
 use Rattle.planner.specs.declared.survey.Survey.{Survey}
 use Rattle.protocol.specs.Store.{Store, storeReplica, storeSlot}
 use Rattle.protocol.specs.Recovery.{after, isSome}
@@ -13,12 +15,13 @@ use Rattle.protocol.specs.Call.{run, Numbers, named}
 use Rattle.protocol.specs.CallResult.{Result, recovered, runResult, callResult, callBytes}
 use Rattle.recovery.specs.NextStore.{storeOf, StoreFits}
 use Rattle.recovery.specs.Answers.{OutlookIs}
+use Rattle.recovery.specs.Look.{RestBelow}
 use Rattle.recovery.specs.Note.{Noted, ReadySurvey}
 use Rattle.recovery.specs.declared.NextStore.{NextStore}
 use Rattle.recovery.specs.declared.Outlook.the-variants as outlook
 use Rattle.recovery.proofs.OutcomeLaws.{slots-few, store-fits, ready-ran, ready-run-bytes}
 use Rattle.recovery.proofs.Underway.{Underway, underway-start, underway-more, underway-rests, underway-recovered, underway-ends, underway-answers, underway-size}
-use Rattle.recovery.proofs.ReadySurveyLaws.{store-within, ready-after}
+use Rattle.recovery.proofs.ReadySurveyLaws.{store-within, replica-within, rest-after, ready-after}
 
 -- from b₀ and its first store, with a budget; so many made; the bytes as they are now, their survey, and the store that is outstanding
 pub record Noting (N : Numbers) (b₀ : Bytes) (t₀ : NextStore) (budget made : ℕ) (b : Bytes) (s : Survey) (t : NextStore) : Type 0 where
@@ -40,6 +43,16 @@ module _ (N : Numbers) {b₀ b : Bytes} {t₀ t : NextStore} {budget made : ℕ}
       {r : Survey} (f : (u : Store) → storeOf t ≡ some u → Noted u s r) where
     pub noted-ready : ReadySurvey N a r
     noted-ready = ready-after N b (g .surveys) (storeOf t) (g .underway .is-next) some-left x f
+
+    -- replica c is the one that the store was made on
+    module _ {c : ℕ} (q : (u : Store) → storeOf t ≡ some u → c ≡ storeReplica u) where
+      pub noted-replica : c < N .n
+      unfolding settingOf
+      noted-replica = replica-within N b (g .surveys) (storeOf t) (g .underway .is-next) some-left q
+
+      pub noted-rests : (c ≡ N .leader - 1 → ⊥) → RestBelow (named N) (decode (N .n) (N .m) a) c
+      unfolding settingOf
+      noted-rests = rest-after N b (g .surveys) (storeOf t) (g .underway .is-next) some-left q x
 
     pub noting-more : {v : NextStore} → made < budget → (ReadySurvey N a r → storeOf v ≡ nextIn (named N) a) → Noting N b₀ t₀ budget (made + 1) a r v
     noting-more h next = record {

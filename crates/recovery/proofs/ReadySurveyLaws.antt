@@ -23,9 +23,11 @@ use Rattle.protocol.proofs.PlanLaws.{ready-intro}
 use Rattle.protocol.proofs.StepLaws.{next-means}
 use Rattle.protocol.proofs.Runs.{step-law}
 use Rattle.demand3.proofs.CallLaws.{accepted, refusal-same}
+use Rattle.recovery.specs.Look.{RestBelow}
 use Rattle.recovery.specs.Note.{viewsAfter, Noted, ReadySurvey}
 use Rattle.recovery.proofs.OutcomeLaws.{slots-few}
 use Rattle.recovery.proofs.SeenAfterLaws.{next-seen}
+use Rattle.recovery.proofs.RestLaws.{rests-after}
 
 module _ (N : Numbers) (b : Bytes) {s : Survey} (v : ReadySurvey N b s) where
   abbrev S : Setting
@@ -37,6 +39,11 @@ module _ (N : Numbers) (b : Bytes) {s : Survey} (v : ReadySurvey N b s) where
   pub shows-next : {o : Option Store} → o ≡ (leaderStore S (viewsIn S b) or followersStore S F) → o ≡ nextIn S b
   unfolding nextIn next ifReady viewsIn
   shows-next x = let r = v .ready in x ∙ rw r
+
+  -- where the leader has none, it is the followers'
+  pub shows-follower : {o : Option Store} {c : ℕ} → RestBelow S F c → o ≡ followersStore S F → o ≡ nextIn S b
+  unfolding _or_ viewsIn
+  shows-follower w x = shows-next (rw (w .leader-rests) x)
 
   low : S .leader < S .n
   unfolding settingOf
@@ -74,6 +81,10 @@ module _ (N : Numbers) (b : Bytes) {s : Survey} (v : ReadySurvey N b s) where
       unfolding viewsIn
       answer-next = ap (λ (G : Cluster). answer S (viewsOf S G)) means ∙ step-law S F u low is-next .answers
 
+      rests-next : (storeReplica u ≡ N .leader - 1 → ⊥) → RestBelow S (decode (S .n) (S .m) a) (storeReplica u)
+      unfolding settingOf
+      rests-next q = rw means (rests-after S F u is-next (λ z. q (omega arith)))
+
       accepts-next : refusalIn N a ≡ 0
       unfolding viewsIn settingOf
       accepts-next =
@@ -91,6 +102,19 @@ module _ (N : Numbers) (b : Bytes) {s : Survey} (v : ReadySurvey N b s) where
 
   pub store-within : (o : Option Store) → o ≡ nextIn S b → (u : Store) → o ≡ some u → (storeReplica u < 7) × (storeSlot u < 64)
   store-within o x u e = store-below u (sym e ∙ x)
+
+  -- replica c is the one that the store is made on
+  module _ {c : ℕ} where
+    pub replica-within : (o : Option Store) → o ≡ nextIn S b → isSome o ≡ true → ((u : Store) → o ≡ some u → c ≡ storeReplica u) → c < S .n
+    unfolding isSome
+    replica-within none x h f = absurd (true≢false (sym h))
+    replica-within (some u) x h f = rw (f u refl) (replica-below u x)
+
+    pub rest-after : {a : Bytes} (o : Option Store) → o ≡ nextIn S b → isSome o ≡ true → ((u : Store) → o ≡ some u → c ≡ storeReplica u)
+        → a ≡ after o b (λ u. afterStoreBytes (N .m) u b) → (c ≡ N .leader - 1 → ⊥) → RestBelow S (decode (S .n) (S .m) a) c
+    unfolding isSome after
+    rest-after none x h f y q = absurd (true≢false (sym h))
+    rest-after (some u) x h f y q = rw (f u refl) (rests-next u x _ y (λ z. q (f u refl ∙ z)))
 
   -- the survey that is noted is that of the cluster after the store
   pub ready-after : {a : Bytes} {r : Survey} (o : Option Store) → o ≡ nextIn S b → isSome o ≡ true

@@ -1,7 +1,7 @@
 // The first store still outstanding, of what is seen of the replicas. Slot k of replica c stands at c * 64 + k. Replicas and slots count from 0.
 ghost use Prim.Native.Nat.{ℕ, _+_, _*_, _-_, _<_, _≤_};
 ghost use mathlib.Core.Path.{_≡_};
-ghost use mathlib.Core.Bool.{true, not, _&&_};
+ghost use mathlib.Core.Bool.{true, false, not, _&&_};
 ghost use mathlib.Core.List.{List};
 ghost use lib.Dec.{eqb, ltb};
 ghost use lib.ListN.{length, getD};
@@ -202,8 +202,8 @@ pub fn is_outstanding(store: NextStore) -> bool
     false
 }
 
-// The first store of the followers, by number.
-fn followers_store<'a>(
+// The first store of the followers, by number, where none below `from` has one.
+pub fn followers_store<'a>(
     cluster: &'a [u8],
     readable: u32,
     lengths: &'a [usize; 7],
@@ -212,13 +212,15 @@ fn followers_store<'a>(
     n: usize,
     m: usize,
     leader: usize,
+    from: usize,
 ) -> NextStore
-    requires { ⌜ InRange n m leader readable (now lengths) (length (now cluster)) ⌝ }
+    requires { ⌜ InRange n m leader readable (now lengths) (length (now cluster)) × (from ≤ n) ⌝ }
     ensures { λ r. ⌜ ((S : Setting) → S .m ≡ m
         → SurveyOf S (viewsIn S (now (cluster .entry))) n leader readable (now (lengths .entry)) (now (conditions .entry)) (now (epochs .entry))
+        → ((j : ℕ) → j < from → isSome (due S (decode (S .n) (S .m) (now (cluster .entry))) j) ≡ false)
         → storeOf r ≡ followersStore S (decode (S .n) (S .m) (now (cluster .entry)))) ⌝ }
 {
-    let mut c: usize = 0;
+    let mut c = from;
     while c < n {
         let store = due_store(cluster, readable, lengths, conditions, epochs, m, leader, c);
         if is_outstanding(store) {
@@ -268,5 +270,6 @@ pub fn first_store(
         n,
         m,
         leader,
+        0,
     )
 }

@@ -1,15 +1,20 @@
 // A run: as many steps as its budget allows, counted.
-ghost use Prim.Native.Nat.{ℕ};
+ghost use Prim.Native.Nat.{ℕ, _-_, _<_};
 ghost use mathlib.Core.Path.{_≡_};
+ghost use mathlib.Core.Option.{some};
+ghost use Rattle.image.specs.Cluster.{decode};
+ghost use Rattle.protocol.specs.Store.{Store, storeReplica};
 ghost use Rattle.protocol.specs.StepBytes.{nextIn};
 ghost use Rattle.protocol.specs.Call.{run, named};
 ghost use Rattle.protocol.specs.CallResult.{runResult, callResult, callBytes};
 ghost use Rattle.recovery.specs.NextStore.{storeOf};
 ghost use Rattle.recovery.specs.Answers.{numbers, runAnswerResult};
+ghost use Rattle.recovery.specs.Look.{RestBelow};
 ghost use Rattle.recovery.specs.Note.{ReadySurvey, SomeReadySurvey};
 use crate::NextStore;
 use crate::RunAnswer;
 use crate::next::first_store;
+use crate::next::followers_store;
 use crate::next::is_outstanding;
 use crate::note::note_store;
 use crate::store::make_store;
@@ -17,11 +22,46 @@ use planner::cluster::view_cluster;
 use planner::plan::plan_survey;
 use planner::survey::Survey;
 
-// The first store still outstanding of a cluster with a ready plan, by its survey.
-fn next_store(cluster: &[u8], survey: Survey, n: usize, m: usize, leader: usize) -> NextStore
-    requires { ⌜ SomeReadySurvey n m leader (now cluster) survey ⌝ }
-    ensures { λ r. ⌜ ((present : ℕ) → ReadySurvey (numbers n m leader present) (now (cluster .entry)) survey → storeOf r ≡ nextIn (named (numbers n m leader present)) (now (cluster .entry))) ⌝ }
+// The replica that a store is made on.
+fn replica_of(store: NextStore) -> usize
+    ensures { λ r. ⌜ ((t : Store) → storeOf store ≡ some t → r ≡ storeReplica t) ⌝ }
 {
+    match store {
+        NextStore::Nothing => 0,
+        NextStore::Entry(c, _slot, _donor) => c,
+        NextStore::Record(c, _slot, _epoch) => c,
+        NextStore::Blank(c, _slot) => c,
+    }
+}
+
+// The first store still outstanding of a cluster with a ready plan, by its survey, once a store on replica c has been made. If c is a
+// follower, the leader and the followers before c have none.
+fn next_store(
+    cluster: &[u8],
+    survey: Survey,
+    n: usize,
+    m: usize,
+    leader: usize,
+    c: usize,
+) -> NextStore
+    requires { ⌜ SomeReadySurvey n m leader (now cluster) survey × (c < n) ⌝ }
+    ensures { λ r. ⌜ ((present : ℕ) → ReadySurvey (numbers n m leader present) (now (cluster .entry)) survey
+        → ((c ≡ leader - 1 → ⊥) → RestBelow (named (numbers n m leader present)) (decode n m (now (cluster .entry))) c)
+        → storeOf r ≡ nextIn (named (numbers n m leader present)) (now (cluster .entry))) ⌝ }
+{
+    if c != leader - 1 {
+        return followers_store(
+            cluster,
+            survey.readable,
+            &survey.lengths,
+            &survey.conditions,
+            &survey.epochs,
+            n,
+            m,
+            leader - 1,
+            c,
+        );
+    }
     let plan = plan_survey(survey, n, leader - 1);
     first_store(cluster, survey, plan, n, m, leader - 1)
 }
@@ -68,7 +108,7 @@ pub fn run_cluster(
         make_store(cluster, m, store);
         made += 1;
         survey = note_store(survey, store);
-        store = next_store(cluster, survey, n, m, leader);
+        store = next_store(cluster, survey, n, m, leader, replica_of(store));
     }
     run_answer(store, made)
 }

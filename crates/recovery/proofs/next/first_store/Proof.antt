@@ -31,7 +31,7 @@ returns-2 : tie.Need-returns-2
 returns-2 c = λ S em s p.
     or-follower _ _ _ _ (c .before .before .before .before .before .before .leader-store .ensures S (viewsIn S (c .before .before .before .before .before .before .before .before .before .before .before .before .before .before .before .args .cluster .now)) _ (s .leader-is) (looked S _ s refl _ (c .before .before .before .before .before .before .before .before .before .before .before .before .before .before .before .pre .0 .leader-below) (s .leader-reads)) p)
     (sym (c .before .before .before .before .before .is-outstanding .ensures) ∙ c .before .before .before .before .if1 .left)
-    (c .followers-store .ensures S em s)
+    (c .followers-store .ensures S em s (λ j h. absurd (omega arith)))
 
 pub first-store-spec : {M : Type 1} → statement M
 first-store-spec =

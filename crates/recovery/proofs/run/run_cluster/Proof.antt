@@ -7,7 +7,7 @@ use Rattle.recovery.specs.Answers.{numbers}
 use Rattle.recovery.specs.NextStore.{storeOf}
 use Rattle.recovery.proofs.OutcomeLaws.{refused-run, refused-run-bytes, waiting-run, waiting-run-bytes}
 use Rattle.recovery.proofs.OutlookLaws.{from-one, named-m, in-range, end-fits, waits, readies}
-use Rattle.recovery.proofs.Noting.{Noting, noting-start, noting-fits, noting-within, noted-ready, noting-more, noting-size, noting-recovered, noting-ends}
+use Rattle.recovery.proofs.Noting.{Noting, noting-start, noting-fits, noting-within, noted-ready, noted-replica, noted-rests, noting-more, noting-size, noting-recovered, noting-ends}
 use borrow.Author.Needs.{needs}
 use native.Mathlib.Omega.{arith}
 use Rattle.recovery.proofs.run.run_cluster.Statement.{statement}
@@ -139,20 +139,33 @@ note-store-requires c κs =
     let N = numbers (a .n) (a .m) (a .leader) (a .present) in
     noting-within N (c .before .before .before .before .before .before .before .loop .inv)
 
+replica-of-requires : tie.Need-replica-of-requires Inv-loop μ-loop
+replica-of-requires c κs = search needs
+
 next-store-requires : tie.Need-next-store-requires Inv-loop μ-loop
 next-store-requires c κs =
-    let a = c .before .before .before .before .before .before .before .before .before .before .before .before .before .before .before .before .before .before .before .before .args in
+    let a = c .before .before .before .before .before .before .before .before .before .before .before .before .before .before .before .before .before .before .before .before .before .args in
     let N = numbers (a .n) (a .m) (a .leader) (a .present) in
-    record { present = a .present; is = noted-ready N (c .before .before .before .before .before .before .before .before .before .loop .inv) (sym (c .before .before .before .before .before .before .before .is-outstanding .ensures) ∙ not-false _ (c .before .before .before .before .before .before .if3 .left)) (c .before .before .before .before .make-store .ensures) (c .before .note-store .ensures) }
+    let g = c .before .before .before .before .before .before .before .before .before .before .loop .inv in
+    let t = sym (c .before .before .before .before .before .before .before .before .is-outstanding .ensures) ∙ not-false _ (c .before .before .before .before .before .before .before .if3 .left) in
+    let x = c .before .before .before .before .before .make-store .ensures in
+    let f = c .before .before .note-store .ensures in
+    let q = c .replica-of .ensures in
+    (record { present = a .present; is = noted-ready N g t x f }, noted-replica N g t x f q)
 
 loop-less : tie.Need-loop-less Inv-loop μ-loop
 loop-less c = search needs
 
 loop-again : tie.Need-loop-again Inv-loop μ-loop
 loop-again c =
-    let a = c .before .before .before .before .before .before .before .before .before .before .before .before .before .before .before .before .before .before .before .before .before .args in
+    let a = c .before .before .before .before .before .before .before .before .before .before .before .before .before .before .before .before .before .before .before .before .before .before .args in
     let N = numbers (a .n) (a .m) (a .leader) (a .present) in
-    noting-more N (c .before .before .before .before .before .before .before .before .before .before .loop .inv) (sym (c .before .before .before .before .before .before .before .before .is-outstanding .ensures) ∙ not-false _ (c .before .before .before .before .before .before .before .if3 .left)) (c .before .before .before .before .before .make-store .ensures) (c .before .before .note-store .ensures) (c .before .before .before .before .before .before .before .before .before .loop-test .taken) (c .next-store .ensures (a .present))
+    let g = c .before .before .before .before .before .before .before .before .before .before .before .loop .inv in
+    let t = sym (c .before .before .before .before .before .before .before .before .before .is-outstanding .ensures) ∙ not-false _ (c .before .before .before .before .before .before .before .before .if3 .left) in
+    let x = c .before .before .before .before .before .before .make-store .ensures in
+    let f = c .before .before .before .note-store .ensures in
+    let q = c .before .replica-of .ensures in
+    noting-more N g t x f (c .before .before .before .before .before .before .before .before .before .before .loop-test .taken) (λ v. c .next-store .ensures (a .present) v (noted-rests N g t x f q))
 
 run-answer-requires : tie.Need-run-answer-requires Inv-loop μ-loop
 run-answer-requires c κs = search needs
@@ -192,6 +205,7 @@ run-cluster-spec =
     make-store-requires
     add-made
     note-store-requires
+    replica-of-requires
     next-store-requires
     loop-less
     loop-again
