@@ -11,7 +11,7 @@ use lib.ListN.{length, getD, set}
 use lib.Seq.{getD-set-same, getD-set-other}
 use borrow.Author.Tests.{lt-ltb, le-ltb}
 use Rattle.search.specs.Search.{put}
-use Rattle.search.proofs.SearchLaws.{put-same, put-other, put-case, put-back}
+use Rattle.search.proofs.UpdateLaws.{put-same, put-other, put-case, put-back}
 use Rattle.image.specs.View.{View, Condition, Unused, Whole}
 use Rattle.image.specs.Seen.{conditionNumber}
 use Rattle.planner.specs.Setting.{Setting}

@@ -17,7 +17,8 @@ use Rattle.protocol.specs.Store.{Store, storeReplica, storeSlot, afterStore}
 use Rattle.protocol.specs.Recovery.{_or_, leaderStore, followersStore, isSome, ifReady, next, after}
 use Rattle.protocol.specs.StepBytes.{afterStoreBytes, nextIn}
 use Rattle.protocol.specs.Call.{Numbers, named, refusalIn}
-use Rattle.protocol.proofs.Due.{ready-facts, due-facts}
+use Rattle.protocol.proofs.Due.{due-facts}
+use Rattle.protocol.proofs.ReadyPlan.{ready-facts}
 use Rattle.protocol.proofs.Keeps.{due-target, due-slot}
 use Rattle.protocol.proofs.PlanLaws.{ready-intro}
 use Rattle.protocol.proofs.StepLaws.{next-means}

@@ -14,7 +14,11 @@ use Rattle.planner.specs.Setting.{Setting, viewsOf}
 use Rattle.planner.specs.Rules.{isFaulty, isRecordLost, answers, isFetch, isTruncate, rule, donor, end}
 use Rattle.protocol.specs.Store.{Store, storeEntry, storeRecord, storeBlank, storeReplica, afterStore}
 use Rattle.protocol.specs.Recovery.{_or_, ifBelow, leaderStore, differs, firstDiffering, followerStore, isSome, unlike, due, firstOf, followersStore, next}
-use Rattle.protocol.proofs.Due.{ReadyPlan, LeaderDone, leader-done, LeaderDue, leader-blank, leader-fetch, leader-write, Due, by-leader, by-follower, or-elim, below-elim, due-facts}
+use Rattle.protocol.proofs.Due.{Due, by-leader, by-follower, due-facts}
+use Rattle.protocol.proofs.LeaderDue.{leader-blank, leader-fetch, leader-write}
+use Rattle.protocol.proofs.ReadyPlan.{ReadyPlan}
+use Rattle.protocol.proofs.LeaderDue.{LeaderDone, leader-done, LeaderDue}
+use Rattle.protocol.proofs.ChainLaws.{or-elim, below-elim}
 use Rattle.protocol.proofs.PlanLaws.{rule-keep-unfaulty, off-views}
 use Rattle.protocol.proofs.Effects.{view}
 use Rattle.protocol.proofs.Keeps.{stored-off}

@@ -7,7 +7,7 @@ use native.Mathlib.Omega.{arith}
 use native.Mathlib.Decide.{ℕ-discrete}
 use borrow.Author.Tests.{lt-ltb, le-ltb}
 use Rattle.search.specs.Search.{put}
-use Rattle.search.proofs.SearchLaws.{put-same, put-other, put-case}
+use Rattle.search.proofs.UpdateLaws.{put-same, put-other, put-case}
 use Rattle.record.specs.Meaning.{good, blank, Entry, intact}
 use Rattle.image.specs.Image.{Image, setRecord, setEntry}
 use Rattle.image.specs.Cluster.{Cluster}
@@ -17,7 +17,12 @@ use Rattle.planner.specs.Setting.{Setting, viewsOf}
 use Rattle.protocol.specs.Store.{Store, storeEntry, storeRecord, storeBlank, storeReplica, afterStore}
 use Rattle.protocol.specs.Recovery.{next}
 use Rattle.protocol.proofs.Effects.{view, Blanked, Mended, Appended, view-ext, blank-effect, mend-effect, write-effect, append-effect, fill-effect}
-use Rattle.protocol.proofs.Due.{ReadyPlan, LeaderDone, LeaderDue, FollowerDue, Due, by-leader, by-follower, leader-blank, leader-fetch, leader-write, follower-blank, follower-mend, follower-write, follower-fill, follower-append, due-facts}
+use Rattle.protocol.proofs.Due.{Due, by-leader, by-follower, due-facts}
+use Rattle.protocol.proofs.LeaderDue.{leader-blank, leader-fetch, leader-write}
+use Rattle.protocol.proofs.FollowerDue.{follower-blank, follower-mend, follower-write, follower-fill, follower-append}
+use Rattle.protocol.proofs.ReadyPlan.{ReadyPlan}
+use Rattle.protocol.proofs.LeaderDue.{LeaderDone, LeaderDue}
+use Rattle.protocol.proofs.FollowerDue.{FollowerDue}
 use Rattle.protocol.proofs.Slots.{answers-readable, below-differing, leader-entry, fetch-facts, donor-entry, like-entry, leader-fits, append-up}
 use Rattle.protocol.proofs.Keeps.{stored-off}
 use Rattle.recovery.specs.Note.{withSlot, seenAfter, viewsAfter}
