@@ -11,7 +11,7 @@ use Rattle.slices.specs.Parts.{Bytes, part, spliced}
 use Rattle.record.specs.Layout.{recordBytes, blankRecord}
 use Rattle.image.specs.Image.{recordAt, entryAt}
 use Rattle.image.specs.Cluster.{imageAt}
-use Rattle.protocol.specs.Store.{Store, storeReplica}
+use Rattle.protocol.specs.Store.{Store}
 use Rattle.protocol.specs.Recovery.{after, isSome}
 use Rattle.protocol.specs.StepBytes.{afterStoreBytes}
 use Rattle.recovery.specs.NextStore.{storeOf}
@@ -52,11 +52,10 @@ is-some (Entry c k d) h = refl
 is-some (Record c k e) h = refl
 is-some (Blank c k) h = refl
 
--- ---- the replica that a store is made on
+-- what holds of the store that there is
 
-module _ {r : ℕ} (o : Option Store) where
-  pub replica-none : o ≡ none → (t : Store) → o ≡ some t → r ≡ storeReplica t
-  replica-none e t h = absurd (let z : _≡_ {A = ℕ} 0 1 = cc in omega arith)
+pub no-store : (P : Store → Type 0) {o : Option Store} → o ≡ none → (t : Store) → o ≡ some t → P t
+no-store P e t h = absurd (let z : _≡_ {A = ℕ} 0 1 = cc in omega arith)
 
-  pub replica-some : {u : Store} → o ≡ some u → r ≡ storeReplica u → (t : Store) → o ≡ some t → r ≡ storeReplica t
-  replica-some {u} e q t h = let z : u ≡ t = cc in rw (← z) q
+pub that-store : (P : Store → Type 0) {o : Option Store} {u : Store} → o ≡ some u → P u → (t : Store) → o ≡ some t → P t
+that-store P {o} {u} e p t h = let z : u ≡ t = cc in rw (← z) p

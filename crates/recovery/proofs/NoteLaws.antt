@@ -2,22 +2,19 @@
 use Prim.Native.Nat.{ℕ, suc, _+_, _*_, _≤_, _<_}
 use mathlib.Core.Path.{_≡_, refl, sym, _∙_, subst}
 use mathlib.Core.Bool.{Bool, true, false, cond}
-use mathlib.Core.List.{List}
-use mathlib.Core.Option.{Option, none, some}
 use native.Mathlib.Omega.{arith}
-use native.Mathlib.Decide.{ℕ-discrete}
 use lib.Dec.{ltb}
 use lib.ListN.{length, getD, set}
 use lib.Seq.{getD-set-same, getD-set-other}
 use borrow.Author.Tests.{lt-ltb, le-ltb}
 use Rattle.search.specs.Search.{put}
-use Rattle.search.proofs.UpdateLaws.{put-same, put-other, put-case, put-back}
+use Rattle.search.proofs.UpdateLaws.{put-case, put-back}
 use Rattle.image.specs.View.{View, Condition, Unused, Whole}
 use Rattle.image.specs.Seen.{conditionNumber}
 use Rattle.planner.specs.Setting.{Setting}
-use Rattle.planner.specs.Survey.{Surveyed, SurveyOf}
+use Rattle.planner.specs.Survey.{SurveyOf}
 use Rattle.planner.specs.declared.survey.Survey.{Survey}
-use Rattle.protocol.specs.Store.{Store, storeEntry, storeRecord, storeBlank, storeReplica, storeSlot}
+use Rattle.protocol.specs.Store.{storeEntry, storeRecord, storeBlank, storeReplica, storeSlot}
 use Rattle.recovery.specs.Note.{withSlot, seenAfter, viewsAfter, SlotSet, Noted}
 
 module _ (S : Setting) (W : ℕ → View) (c k l : ℕ) (a : Condition) (e : ℕ) where
@@ -34,7 +31,7 @@ module _ (S : Setting) (W : ℕ → View) (c k l : ℕ) (a : Condition) (e : ℕ
     unfolding withSlot
     length-set d h ok =
         rw (t .lengths) (put-case (λ (v : View). getD (set (s .lengths) c l) d 0 ≡ v .length) W c (withSlot (W c) k l a e) d
-        (λ q. rw q (getD-set-same (s .lengths) c l 0 (omega (arith, t .replicas, f .few))))
+        (λ q. rw q (getD-set-same (s .lengths) c l 0 (omega (arith, t .lengths-sized, f .few))))
         (λ q. getD-set-other (s .lengths) c d l 0 q ∙ f .surveyed .length-is d h (sym (readable-kept d) ∙ ok)))
 
     condition-set : (d j : ℕ) → d < n → j < S .m → U d .readable ≡ true → getD (r .conditions) (d * 64 + j) 0 ≡ conditionNumber (U d .condition j)
@@ -42,7 +39,7 @@ module _ (S : Setting) (W : ℕ → View) (c k l : ℕ) (a : Condition) (e : ℕ
     condition-set d j h b ok =
         rw (t .conditions) (put-case (λ (v : View). getD (set (s .conditions) (c * 64 + k) (conditionNumber a)) (d * 64 + j) 0 ≡ conditionNumber (v .condition j)) W c (withSlot (W c) k l a e) d
         (λ q. rw q (put-case (λ (x : Condition). getD (set (s .conditions) (c * 64 + k) (conditionNumber a)) (c * 64 + j) 0 ≡ conditionNumber x) (W c .condition) k a j
-        (λ p. rw p (getD-set-same (s .conditions) (c * 64 + k) (conditionNumber a) 0 (omega (arith, t .slots, f .few, f .slots-fit))))
+        (λ p. rw p (getD-set-same (s .conditions) (c * 64 + k) (conditionNumber a) 0 (omega (arith, t .conditions-sized, f .few, f .slots-fit))))
         (λ p. getD-set-other (s .conditions) (c * 64 + k) (c * 64 + j) (conditionNumber a) 0 (λ z. p (omega arith)) ∙ f .surveyed .condition-is c j cn b on)))
         (λ q. getD-set-other (s .conditions) (c * 64 + k) (d * 64 + j) (conditionNumber a) 0 (λ z. q (omega (arith, f .slots-fit))) ∙ f .surveyed .condition-is d j h b (sym (readable-kept d) ∙ ok)))
 
@@ -51,7 +48,7 @@ module _ (S : Setting) (W : ℕ → View) (c k l : ℕ) (a : Condition) (e : ℕ
     epoch-set d j h b ok =
         rw (t .epochs) (put-case (λ (v : View). getD (set (s .epochs) (c * 64 + k) e) (d * 64 + j) 0 ≡ v .epoch j) W c (withSlot (W c) k l a e) d
         (λ q. rw q (put-case (λ (x : ℕ). getD (set (s .epochs) (c * 64 + k) e) (c * 64 + j) 0 ≡ x) (W c .epoch) k e j
-        (λ p. rw p (getD-set-same (s .epochs) (c * 64 + k) e 0 (omega (arith, t .more-slots, f .few, f .slots-fit))))
+        (λ p. rw p (getD-set-same (s .epochs) (c * 64 + k) e 0 (omega (arith, t .epochs-sized, f .few, f .slots-fit))))
         (λ p. getD-set-other (s .epochs) (c * 64 + k) (c * 64 + j) e 0 (λ z. p (omega arith)) ∙ f .surveyed .epoch-is c j cn b on)))
         (λ q. getD-set-other (s .epochs) (c * 64 + k) (d * 64 + j) e 0 (λ z. q (omega (arith, f .slots-fit))) ∙ f .surveyed .epoch-is d j h b (sym (readable-kept d) ∙ ok)))
 
@@ -105,12 +102,3 @@ module _ (s r : Survey) (c k : ℕ) where
       let i = f .surveyed .length-is c cn ok in
       let j = f .surveyed .epoch-is c k cn km ok in
       rw (lt-ltb k (W c .length) (omega arith)) (slot-set S W c k (W c .length) Whole (W c .epoch k) n leader s r (rw (i, j) at t) cn km ok (f .logs-fit c) f)
-
--- ---- the store that the enum names
-
-module _ (s r : Survey) (o : Option Store) where
-  pub noted-nothing : o ≡ none → (t : Store) → o ≡ some t → Noted t s r
-  noted-nothing e t h = absurd (let y : _≡_ {A = ℕ} 0 1 = cc in omega arith)
-
-  pub noted-same : {u : Store} → o ≡ some u → Noted u s r → (t : Store) → o ≡ some t → Noted t s r
-  noted-same {u} e f t h = let z : u ≡ t = cc in rw (← z) f

@@ -6,12 +6,10 @@ use mathlib.Core.Option.{Option, none, some}
 use native.Mathlib.Omega.{arith}
 use lib.ListN.{length}
 use Rattle.slices.specs.Parts.{Bytes}
-use Rattle.image.specs.View.{View}
 use Rattle.image.specs.Cluster.{Cluster, decode}
 use Rattle.planner.specs.Setting.{Setting, settingOf, viewsOf}
-use Rattle.planner.specs.Rules.{Ready, answer, end}
+use Rattle.planner.specs.Rules.{answer, end}
 use Rattle.planner.specs.Plan.{viewsIn}
-use Rattle.planner.specs.Survey.{SurveyOf}
 use Rattle.planner.specs.declared.survey.Survey.{Survey}
 use Rattle.protocol.specs.Store.{Store, storeReplica, storeSlot, afterStore}
 use Rattle.protocol.specs.Recovery.{_or_, leaderStore, followersStore, isSome, ifReady, next, after}

@@ -1,17 +1,17 @@
 -- After a follower's store neither the leader nor a follower before it has one outstanding: `rests-after`.
-use Prim.Native.Nat.{ℕ, _≤_, _<_, pred}
+use Prim.Native.Nat.{ℕ, _<_, pred}
 use mathlib.Core.Path.{_≡_, refl, sym, ap, _∙_, fun-ext}
 use mathlib.Core.Bool.{Bool, true, false, cond}
 use mathlib.Core.Option.{Option, none, some}
 use native.Mathlib.Omega.{arith}
 use lib.Dec.{ltb}
-use borrow.Author.Tests.{ltb-true, le-ltb}
+use borrow.Author.Tests.{le-ltb}
 use Rattle.search.specs.Search.{lowest}
 use Rattle.search.proofs.SearchLaws.{lowest-is, below-lowest}
 use Rattle.image.specs.Cluster.{Cluster}
 use Rattle.image.specs.View.{View}
 use Rattle.planner.specs.Setting.{Setting, viewsOf}
-use Rattle.planner.specs.Rules.{isFaulty, isRecordLost, answers, isFetch, isTruncate, rule, donor, end}
+use Rattle.planner.specs.Rules.{isFaulty, isRecordLost, answers, isFetch, isTruncate, rule, end}
 use Rattle.protocol.specs.Store.{Store, storeEntry, storeRecord, storeBlank, storeReplica, afterStore}
 use Rattle.protocol.specs.Recovery.{_or_, ifBelow, leaderStore, differs, firstDiffering, followerStore, isSome, unlike, due, firstOf, followersStore, next}
 use Rattle.protocol.proofs.Due.{Due, by-leader, by-follower, due-facts}

@@ -1,28 +1,24 @@
 -- What is seen after the first outstanding store is what was seen before with one slot changed: `next-seen`.
 use Prim.Native.Nat.{ℕ, suc, _≤_, _<_}
-use mathlib.Core.Path.{_≡_, refl, sym, ap, _∙_, fun-ext}
-use mathlib.Core.Bool.{Bool, true, false}
-use mathlib.Core.Option.{Option, none, some}
+use mathlib.Core.Path.{_≡_, sym, ap, _∙_, fun-ext}
+use mathlib.Core.Bool.{true}
+use mathlib.Core.Option.{some}
 use native.Mathlib.Omega.{arith}
-use native.Mathlib.Decide.{ℕ-discrete}
 use borrow.Author.Tests.{lt-ltb, le-ltb}
-use Rattle.search.specs.Search.{put}
-use Rattle.search.proofs.UpdateLaws.{put-same, put-other, put-case}
+use Rattle.search.proofs.UpdateLaws.{put-same, put-case}
 use Rattle.record.specs.Meaning.{good, blank, Entry, intact}
 use Rattle.image.specs.Image.{Image, setRecord, setEntry}
 use Rattle.image.specs.Cluster.{Cluster}
-use Rattle.image.specs.View.{View, Condition, Unused, Whole, condition, epochOf, conditionAt, epochAt, viewOf}
+use Rattle.image.specs.View.{View, Condition, Unused, Whole, condition, epochOf, viewOf}
 use Rattle.image.proofs.StoreLaws.{record-condition, record-condition-other, record-epoch, record-epoch-other}
 use Rattle.planner.specs.Setting.{Setting, viewsOf}
 use Rattle.protocol.specs.Store.{Store, storeEntry, storeRecord, storeBlank, storeReplica, afterStore}
 use Rattle.protocol.specs.Recovery.{next}
-use Rattle.protocol.proofs.Effects.{view, Blanked, Mended, Appended, view-ext, blank-effect, mend-effect, write-effect, append-effect, fill-effect}
+use Rattle.protocol.proofs.Effects.{view, Mended, Appended, view-ext, blank-effect, mend-effect, write-effect, append-effect, fill-effect}
 use Rattle.protocol.proofs.Due.{Due, by-leader, by-follower, due-facts}
-use Rattle.protocol.proofs.LeaderDue.{leader-blank, leader-fetch, leader-write}
-use Rattle.protocol.proofs.FollowerDue.{follower-blank, follower-mend, follower-write, follower-fill, follower-append}
 use Rattle.protocol.proofs.ReadyPlan.{ReadyPlan}
-use Rattle.protocol.proofs.LeaderDue.{LeaderDone, LeaderDue}
-use Rattle.protocol.proofs.FollowerDue.{FollowerDue}
+use Rattle.protocol.proofs.LeaderDue.{LeaderDue, leader-blank, leader-fetch, leader-write}
+use Rattle.protocol.proofs.FollowerDue.{FollowerDue, follower-blank, follower-mend, follower-write, follower-fill, follower-append}
 use Rattle.protocol.proofs.Slots.{answers-readable, below-differing, leader-entry, fetch-facts, donor-entry, like-entry, leader-fits, append-up}
 use Rattle.protocol.proofs.Keeps.{stored-off}
 use Rattle.recovery.specs.Note.{withSlot, seenAfter, viewsAfter}

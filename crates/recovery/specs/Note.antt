@@ -36,9 +36,9 @@ pub record SlotSet (s r : Survey) (c k l x e : ℕ) : Type 0 where
   pub lengths : r .lengths ≡ set (s .lengths) c l
   pub conditions : r .conditions ≡ set (s .conditions) (c * 64 + k) x
   pub epochs : r .epochs ≡ set (s .epochs) (c * 64 + k) e
-  pub replicas : length (s .lengths) ≡ 7
-  pub slots : length (s .conditions) ≡ 448
-  pub more-slots : length (s .epochs) ≡ 448
+  pub lengths-sized : length (s .lengths) ≡ 7
+  pub conditions-sized : length (s .conditions) ≡ 448
+  pub epochs-sized : length (s .epochs) ≡ 448
 
 -- a survey of the replicas, for whatever views it was one, is r once the store is made
 abbrev pub Noted : Store → Survey → Survey → Type 0

@@ -58,8 +58,8 @@ fn note_record(survey: Survey, c: usize, k: usize, epoch: u32) -> Survey
     requires { ⌜ (c < 7) × (k < 64) ⌝ }
     ensures { λ r. ⌜ Noted (storeRecord c k epoch) survey r ⌝ }
 {
-    let length = length_with(survey.lengths[c], k);
-    with_slot(survey, c, k, length, 1, epoch)
+    let grown = length_with(survey.lengths[c], k);
+    with_slot(survey, c, k, grown, 1, epoch)
 }
 
 // A blanked record leaves its slot unused, and ends the log there.

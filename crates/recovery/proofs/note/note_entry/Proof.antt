@@ -1,5 +1,6 @@
 -- `note_entry` makes a used slot whole, and leaves the survey behind the log.
 use Rattle.recovery.proofs.NoteLaws.{noted-entry, noted-mended}
+use native.Mathlib.Omega.{arith}
 use borrow.Author.Needs.{needs}
 use Rattle.recovery.proofs.note.note_entry.Statement.{statement}
 use Rattle.recovery.proofs.note.note_entry.Tie as tie
@@ -11,7 +12,7 @@ element-copy-out-length : tie.Need-element-copy-out-length
 element-copy-out-length c = search needs
 
 returns : tie.Need-returns
-returns c = noted-entry _ _ _ (c .if1 .taken)
+returns c = noted-entry _ _ _ (omega arith)
 
 mul-epoch : tie.Need-mul-epoch
 mul-epoch c = search needs
@@ -29,7 +30,7 @@ with-slot-requires : tie.Need-with-slot-requires
 with-slot-requires c κs = search needs
 
 returns-2 : tie.Need-returns-2
-returns-2 c = noted-mended _ _ _ _ (c .before .before .if1 .left) (c .with-slot .ensures)
+returns-2 c = noted-mended _ _ _ _ (omega arith) (c .with-slot .ensures)
 
 pub note-entry-spec : {M : Type 1} → statement M
 note-entry-spec =

@@ -2,7 +2,7 @@
 use mathlib.Core.Path.{ap}
 use Rattle.protocol.specs.Store.{storeReplica, storeSlot}
 use Rattle.recovery.specs.NextStore.{storeOf}
-use Rattle.recovery.proofs.NoteLaws.{noted-nothing, noted-same}
+use Rattle.recovery.proofs.MadeLaws.{no-store, that-store}
 use borrow.Author.Needs.{needs}
 use Rattle.recovery.proofs.note.note_store.Statement.{statement}
 use Rattle.recovery.proofs.note.note_store.Tie as tie
@@ -32,16 +32,16 @@ unfolding storeReplica storeSlot
 note-blank-requires c κs = c .before .before .before .pre _ (ap storeOf (c .before .store3 .given .1))
 
 returns : tie.Need-returns
-returns c = noted-nothing _ _ _ (ap storeOf (c .enum-told .given .1))
+returns c = no-store _ (ap storeOf (c .enum-told .given .1))
 
 returns-2 : tie.Need-returns-2
-returns-2 c = noted-same _ _ _ (ap storeOf (c .before .before .store .given .1)) (c .note-entry .ensures _)
+returns-2 c = that-store _ (ap storeOf (c .before .before .store .given .1)) (c .note-entry .ensures _)
 
 returns-3 : tie.Need-returns-3
-returns-3 c = noted-same _ _ _ (ap storeOf (c .before .before .store2 .given .1)) (c .note-record .ensures)
+returns-3 c = that-store _ (ap storeOf (c .before .before .store2 .given .1)) (c .note-record .ensures)
 
 returns-4 : tie.Need-returns-4
-returns-4 c = noted-same _ _ _ (ap storeOf (c .before .before .store3 .given .1)) (c .note-blank .ensures)
+returns-4 c = that-store _ (ap storeOf (c .before .before .store3 .given .1)) (c .note-blank .ensures)
 
 pub note-store-spec : {M : Type 1} → statement M
 note-store-spec =

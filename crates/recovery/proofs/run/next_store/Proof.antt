@@ -1,5 +1,4 @@
 -- `next_store` asks the followers from the last one on, or plans again from the survey.
-use mathlib.Core.Path.{_≡_}
 use Rattle.planner.specs.Setting.{settingOf}
 use Rattle.protocol.specs.Call.{named}
 use Rattle.recovery.specs.Answers.{numbers}
@@ -39,7 +38,7 @@ returns c = λ present v rest.
     let a = c .before .before .before .before .before .before .before .args in
     let N = numbers (a .n) (a .m) (a .leader) present in
     let b = a .cluster .now in
-    let w = rest (c .before .before .before .before .before .if1 .taken) in
+    let w = rest (λ e. omega arith) in
     shows-follower N b v w (c .followers-store .ensures (named N) (named-m N) (v .sees) (w .followers-rest))
 
 sub-plan-survey : tie.Need-sub-plan-survey

@@ -2,7 +2,7 @@
 use mathlib.Core.Path.{refl, ap}
 use Rattle.protocol.specs.Store.{storeReplica}
 use Rattle.recovery.specs.NextStore.{storeOf}
-use Rattle.recovery.proofs.MadeLaws.{replica-none, replica-some}
+use Rattle.recovery.proofs.MadeLaws.{no-store, that-store}
 use borrow.Author.Needs.{needs}
 use Rattle.recovery.proofs.run.replica_of.Statement.{statement}
 use Rattle.recovery.proofs.run.replica_of.Tie as tie
@@ -20,19 +20,19 @@ enum-known-store-3 : tie.Need-enum-known-store-3
 enum-known-store-3 c = search needs
 
 returns : tie.Need-returns
-returns c = replica-none _ (ap storeOf (c .enum-told .given .1))
+returns c = no-store _ (ap storeOf (c .enum-told .given .1))
 
 returns-2 : tie.Need-returns-2
 unfolding storeReplica
-returns-2 c = replica-some _ (ap storeOf (c .before .store .given .1)) refl
+returns-2 c = that-store _ (ap storeOf (c .before .store .given .1)) refl
 
 returns-3 : tie.Need-returns-3
 unfolding storeReplica
-returns-3 c = replica-some _ (ap storeOf (c .before .store2 .given .1)) refl
+returns-3 c = that-store _ (ap storeOf (c .before .store2 .given .1)) refl
 
 returns-4 : tie.Need-returns-4
 unfolding storeReplica
-returns-4 c = replica-some _ (ap storeOf (c .before .store3 .given .1)) refl
+returns-4 c = that-store _ (ap storeOf (c .before .store3 .given .1)) refl
 
 pub replica-of-spec : {M : Type 1} → statement M
 replica-of-spec =

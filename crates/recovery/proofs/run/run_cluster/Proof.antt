@@ -1,10 +1,9 @@
 -- `run_cluster` reads the images once, and notes each store that it makes.
 use Prim.Native.Nat.{_-_}
-use mathlib.Core.Path.{_≡_, refl, sym, _∙_}
+use mathlib.Core.Path.{refl, sym, _∙_}
 use borrow.Author.Tests.{not-true, not-false}
 use Rattle.protocol.specs.Call.{named}
 use Rattle.recovery.specs.Answers.{numbers}
-use Rattle.recovery.specs.NextStore.{storeOf}
 use Rattle.recovery.proofs.OutcomeLaws.{refused-run, refused-run-bytes, waiting-run, waiting-run-bytes}
 use Rattle.recovery.proofs.OutlookLaws.{from-one, named-m, in-range, end-fits, waits, readies}
 use Rattle.recovery.proofs.Noting.{Noting, noting-start, noting-fits, noting-within, noted-ready, noted-replica, noted-rests, noting-more, noting-size, noting-recovered, noting-ends}
