@@ -100,12 +100,7 @@ fn number<T>(answer: Result<T, Refusal>) -> u8 {
 
 /// The model's rows as the proved call lays them out.
 fn laid_out(rows: &[ReplicaRow]) -> Vec<proved::ReplicaRow> {
-    let row = |row: &ReplicaRow| proved::ReplicaRow {
-        readable: row.readable,
-        length: row.length,
-        last_epoch: row.last_epoch,
-    };
-    rows.iter().map(row).collect()
+    rows.iter().map(|&row| row.into()).collect()
 }
 
 fn some_row(rng: &mut Rng) -> ReplicaRow {

@@ -61,7 +61,7 @@ fn images_of_any_bytes() {
     );
 }
 
-/// The same lists, played on the proved step and run.
+/// The same lists, played on the proved planner, step and run.
 #[test]
 fn agreed_lists_by_the_proved_code() {
     let expected = check_agreed(MODEL, 4, 3_000);

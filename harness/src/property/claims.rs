@@ -2,6 +2,7 @@
 
 use super::coverage::Coverage;
 use super::ensure;
+use crate::code::Plan;
 use crate::generate::damage::intact_under;
 use crate::generate::{Case, Committed};
 use crate::model::planner::{PLAN_FETCH, PLAN_TRUNCATE, PLAN_WAIT};
@@ -27,7 +28,7 @@ pub struct Start<'a> {
 
 impl<'a> Start<'a> {
     pub fn new(case: &'a Case, committed: &'a [Committed]) -> Start<'a> {
-        let (answer, plan, rows) = planned(case, &case.cluster);
+        let (answer, plan, rows) = planned(plan, case, &case.cluster);
         let mut within_reach = 0;
         if answer.is_ok() {
             for replica in 1..=case.n {
@@ -195,7 +196,7 @@ impl<'a> Start<'a> {
         for committed in self.committed {
             self.check_kept(now, committed)?;
         }
-        let (answer, _, _) = planned(self.case, now);
+        let (answer, _, _) = planned(plan, self.case, now);
         ensure(answer == self.answer, || {
             format!("the planner said {:?}, now {answer:?}", self.answer)
         })?;
@@ -281,7 +282,11 @@ impl<'a> Start<'a> {
 }
 
 /// Plans with lent buffers of the right length. Wrong numbers get small ones.
-pub fn planned(case: &Case, cluster: &[u8]) -> (Result<Answer, Refusal>, Vec<u8>, Vec<ReplicaRow>) {
+pub fn planned(
+    plan: Plan,
+    case: &Case,
+    cluster: &[u8],
+) -> (Result<Answer, Refusal>, Vec<u8>, Vec<ReplicaRow>) {
     let mut bytes = vec![0xee; case.m.min(1000)];
     let mut rows = vec![ReplicaRow::default(); case.n.min(1000)];
     let answer = plan(

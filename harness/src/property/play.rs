@@ -7,7 +7,7 @@ use crate::code::Code;
 use crate::generate::damage::torn_entry;
 use crate::generate::{Case, Rng};
 use crate::model::{
-    apply, entry_offset, image_offset, plan, record_offset, Next, Refusal, ReplicaRow, RunEnd,
+    apply, entry_offset, image_offset, record_offset, Next, Refusal, ReplicaRow, RunEnd,
     StepAnswer, Store, StoreKind, ENTRY_LEN, RECORD_LEN,
 };
 
@@ -23,7 +23,7 @@ pub fn play(
     for _ in 0..calls {
         let before = now.clone();
         match rng.below(10) {
-            0 => planner_call(start, &now)?,
+            0 => planner_call(start, code, &now)?,
             1 | 2 => step_call(start, code, &mut now)?,
             3 | 4 => cut_call(rng, start, code, &mut now, 0, coverage)?,
             5 => run_call(rng, start, code, &mut now, coverage)?,
@@ -44,8 +44,8 @@ pub fn play(
     start.check_state(&now, coverage)
 }
 
-fn planner_call(start: &Start, now: &[u8]) -> Result<(), String> {
-    let (answer, _, _) = planned(start.case, now);
+fn planner_call(start: &Start, code: Code, now: &[u8]) -> Result<(), String> {
+    let (answer, _, _) = planned(code.plan, start.case, now);
     ensure(answer == start.answer, || {
         format!("the planner said {:?}, now {answer:?}", start.answer)
     })
@@ -270,7 +270,7 @@ fn refusal_of(
     let cluster = &mut case.cluster;
     let which = if lent_wrong { 0 } else { rng.below(3) };
     let refusal = match which {
-        0 => refused_plan(rng, case, lent_wrong)?,
+        0 => refused_plan(rng, code, case, lent_wrong)?,
         1 => (code.step)(cluster, n, m, leader, present).err(),
         _ => (code.run)(cluster, n, m, leader, present, rng.draw() >> rng.below(64)).err(),
     };
@@ -278,7 +278,12 @@ fn refusal_of(
 }
 
 /// A planner call to be refused; its lent buffers must stay as they are.
-fn refused_plan(rng: &mut Rng, case: &Case, lent_wrong: bool) -> Result<Option<Refusal>, String> {
+fn refused_plan(
+    rng: &mut Rng,
+    code: Code,
+    case: &Case,
+    lent_wrong: bool,
+) -> Result<Option<Refusal>, String> {
     let row = ReplicaRow {
         readable: 9,
         length: 9,
@@ -294,7 +299,7 @@ fn refused_plan(rng: &mut Rng, case: &Case, lent_wrong: bool) -> Result<Option<R
     }
     let mut bytes = vec![9; slots];
     let mut rows = vec![row; replicas];
-    let answer = plan(
+    let answer = (code.plan)(
         &case.cluster,
         case.n,
         case.m,

@@ -1,6 +1,8 @@
 //! A cluster: each call answers 0, or the refusal's number, and then nothing that was lent has
 //! changed.
 
+use crate::model;
+
 /// A replica's row in the planner's table.
 #[repr(C)]
 #[derive(Clone, Copy, Debug, Default, PartialEq, Eq)]
@@ -9,6 +11,17 @@ pub struct ReplicaRow {
     pub readable: u8,
     pub length: u32,
     pub last_epoch: u32,
+}
+
+/// The model's row, laid out for the proved call.
+impl From<model::ReplicaRow> for ReplicaRow {
+    fn from(row: model::ReplicaRow) -> ReplicaRow {
+        ReplicaRow {
+            readable: row.readable,
+            length: row.length,
+            last_epoch: row.last_epoch,
+        }
+    }
 }
 
 /// A row that is the same number throughout, for guards.
