@@ -44,12 +44,12 @@ answer-found S W ok f w = rw (ok, f, w) (go (ltb (firstWaiting S W) (end S W)))
     go true = refl
     go false = refl
 
-pub refused-outcome : (refusal : ℕ) (rows : List ReplicaRow) → length rows ≡ 7 → (refusal ≡ 0 → ⊥) → (S : Setting) (W : ℕ → View) → Outcome refusal S W (plan.Refused refusal) 0 rows
+pub refused-outcome : (refusal : ℕ) (rows : List ReplicaRow) {count : ℕ} → length rows ≡ 7 → count ≡ 0 → (refusal ≡ 0 → ⊥) → (S : Setting) (W : ℕ → View) → Outcome refusal S W (plan.Refused refusal) count rows
 unfolding planAnswer
-refused-outcome refusal rows l e S W = record {
+refused-outcome refusal rows l none e S W = record {
   sized = l;
   answer-is = rw (ne-eqb refusal 0 e) refl;
-  count-is = rw (ne-eqb refusal 0 e) refl;
+  count-is = none ∙ rw (ne-eqb refusal 0 e) refl;
   rows-are = λ z. absurd (e z);
 }
 

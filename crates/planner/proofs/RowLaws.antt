@@ -30,10 +30,10 @@ module _ (readable : ℕ) (lengths epochs : List ℕ) (c : ℕ) where
   unfolding numberRow
   row-off e = rw e refl
 
-  pub row-on : {e : ℕ} → has readable c ≡ true → e ≡ lastEpoch epochs c (getD lengths c 0)
-      → record { readable = 1; length = getD lengths c 0; «last_epoch» = e } ≡ numberRow readable lengths epochs c
+  pub row-on : {y e : ℕ} → has readable c ≡ true → y ≡ 1 → e ≡ lastEpoch epochs c (getD lengths c 0)
+      → record { readable = y; length = getD lengths c 0; «last_epoch» = e } ≡ numberRow readable lengths epochs c
   unfolding numberRow
-  row-on h q = rw (h, q) refl
+  row-on h one q = rw (h, one, q) refl
 
 -- ---- filled from the front
 

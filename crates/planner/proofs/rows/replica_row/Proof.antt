@@ -27,7 +27,7 @@ cast-t13 : tie.Need-cast-t13
 cast-t13 c = omega (arith, c .before .before .before .before .pre .1 (sym (c .before .before .before .contains .ensures) ∙ not-false _ (c .before .before .if1 .left)))
 
 returns-2 : tie.Need-returns-2
-returns-2 c = row-on _ _ _ _ (sym (c .before .before .before .contains .ensures) ∙ not-false _ (c .before .before .if1 .left)) (c .last-epoch .ensures)
+returns-2 c = row-on _ _ _ _ (sym (c .before .before .before .contains .ensures) ∙ not-false _ (c .before .before .if1 .left)) (omega arith) (c .last-epoch .ensures)
 
 pub replica-row-spec : {M : Type 1} → statement M
 replica-row-spec =
