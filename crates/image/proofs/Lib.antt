@@ -21,3 +21,4 @@ pub mod AppendLaws
 pub mod AppendListLaws
 pub mod PutLaws
 pub mod AppendSteps
+pub mod LastEntryLaws

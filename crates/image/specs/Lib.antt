@@ -11,3 +11,4 @@ pub mod Cluster
 pub mod Answers
 pub mod AppendList
 pub mod AppendClaim
+pub mod LastEntry

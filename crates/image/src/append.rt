@@ -14,6 +14,7 @@ ghost use Rattle.image.specs.View.{logLength, callRefusal};
 ghost use Rattle.image.specs.Append.{appendRefusal, stored, appended, formatted};
 ghost use Rattle.image.specs.Answers.{formatAnswer, appendAnswer};
 ghost use Rattle.image.specs.AppendClaim.{AppendClaim};
+ghost use Rattle.image.specs.LastEntry.{LastEntry};
 use super::AppendAnswer;
 use super::FormatAnswer;
 use super::view::call_refusal;
@@ -177,4 +178,9 @@ pub fn append_entry(
 // What appending does to an image, as a theorem.
 pub fn append_claim()
     ensures { λ _. ⌜ AppendClaim ⌝ }
+{}
+
+// A torn append and a stored entry that was damaged leave the same image: at the last slot no reader of one image can tell them apart.
+pub fn last_entry_claim()
+    ensures { λ _. ⌜ LastEntry ⌝ }
 {}

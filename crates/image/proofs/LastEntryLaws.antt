@@ -1,0 +1,174 @@
+-- An image whose last used slot is faulty has two histories: a torn append, and a stored entry that was damaged.
+use Prim.Native.Nat.{ℕ, zero, suc, _+_, _≤_, _<_}
+use mathlib.Core.Path.{_≡_, refl, sym, ap, _∙_}
+use mathlib.Core.Bool.{Bool, true, false, cond, not, _&&_}
+use native.Mathlib.Omega.{arith}
+use native.Mathlib.Nat.{mul-le-mul-left}
+use lib.Dec.{eqb}
+use lib.ListN.{length}
+use borrow.Author.Tests.{eqb-true, eqb-false}
+use Rattle.slices.specs.Parts.{Bytes, part, spliced}
+use Rattle.slices.proofs.PartLaws.{length-part}
+use Rattle.slices.proofs.SpliceLaws.{length-spliced, spliced-twice, spliced-back}
+use Rattle.slices.proofs.NestedLaws.{spliced-comm}
+use Rattle.record.specs.Layout.{recordBytes, blankRecord, entryBytes}
+use Rattle.record.specs.Meaning.{Record, good, blank, bad, Entry, intact, broken, isEpoch, readRecord, readEntry}
+use Rattle.record.specs.Exactly.{GoodFor}
+use Rattle.record.proofs.LayoutLaws.{length-record, length-blank, length-entry}
+use Rattle.record.proofs.RecordLaws.{good-for, read-blank, epoch-low, epoch-high}
+use Rattle.image.specs.Image.{Image, imageSize, recordAt, entryAt, decodeImage, setRecord}
+use Rattle.image.specs.View.{Condition, Unused, Whole, RecordLost, Faulty, Lost, condition, epochOf, conditionAt, epochAt, logLength, readRefusal}
+use Rattle.image.specs.Verdict.{verdictOf, verdictAt}
+use Rattle.image.specs.Append.{lastEpoch, appendRefusal, stored, appended}
+use Rattle.image.specs.LastEntry.{TwoHistories}
+use Rattle.image.proofs.ViewLaws.{Sound, length-le}
+use Rattle.image.proofs.DecodeLaws.{record-fits, entry-fits, record-there, entry-there, record-spliced}
+use Rattle.image.proofs.StoreLaws.{blanked-length, blanked-sound, record-epoch-other}
+use Rattle.image.proofs.AcceptLaws.{Accepts, readable-size, readable-image, accepts-intro, last-epoch}
+use Rattle.image.proofs.AppendLaws.{readable-still, appended-stored, one-more}
+
+-- ---- what verdict 4 says
+
+last-faulty : (len k : ℕ) (a : Condition) (f : Bool) → verdictOf len k a f ≡ 4 → (a ≡ Faulty) × (len ≡ suc k)
+unfolding verdictOf
+last-faulty len k Whole f h = absurd (omega (arith, h))
+last-faulty len k RecordLost f h = absurd (omega (arith, h))
+last-faulty len k Lost f h = absurd (omega (arith, h))
+last-faulty len k Unused f h = go (eqb k len && not f) h
+  where
+    go : (t : Bool) → _≡_ {A = ℕ} (cond t 5 0) 4 → (Unused ≡ Faulty) × (len ≡ suc k)
+    go true h = absurd (omega (arith, h))
+    go false h = absurd (omega (arith, h))
+last-faulty len k Faulty f h = (refl, go (eqb (suc k) len) refl h)
+  where
+    go : (t : Bool) → eqb (suc k) len ≡ t → _≡_ {A = ℕ} (cond t 4 3) 4 → len ≡ suc k
+    go true e h = sym (eqb-true (suc k) len e)
+    go false e h = absurd (omega (arith, h))
+
+-- a faulty slot's record is good, and its entry not intact with that record's epoch
+faulty-slot : (r : Record) (x : Entry) → condition r x ≡ Faulty → (r ≡ good (epochOf r x)) × ((q : Bytes) → x ≡ intact (epochOf r x) q → ⊥)
+unfolding condition epochOf
+faulty-slot (good e) (intact f p) h = (refl, λ q y. go (eqb e f) refl h (let z : e ≡ f = cc in z))
+  where
+    go : (t : Bool) → eqb e f ≡ t → cond t Whole Faulty ≡ Faulty → e ≡ f → ⊥
+    go true t h z = let w : _≡_ {A = ℕ} 0 1 = cc in omega arith
+    go false t h z = eqb-false e f t z
+faulty-slot (good e) (broken b) h = (refl, λ q y. let z : _≡_ {A = ℕ} 0 1 = cc in omega arith)
+faulty-slot blank x h = absurd (let z : _≡_ {A = ℕ} 0 1 = cc in omega arith)
+faulty-slot (bad b) (intact f p) h = absurd (let z : _≡_ {A = ℕ} 0 1 = cc in omega arith)
+faulty-slot (bad b) (broken d) h = absurd (let z : _≡_ {A = ℕ} 0 1 = cc in omega arith)
+
+-- ---- the bytes, from the image with that slot's record blank
+
+record-first : (m k : ℕ) → k < m → recordAt k + 34 ≤ entryAt m k
+unfolding recordAt entryAt
+record-first m k h = omega (arith, mul-le-mul-left 34 h)
+
+module _ (m : ℕ) (b : Bytes) (k : ℕ) (km : k < m) (size : length b ≡ imageSize m) (r : Bytes) (here : part b (recordAt k) 34 ≡ r) where
+  abbrev x : Bytes
+  x = part b (entryAt m k) 240
+
+  abbrev a : Bytes
+  a = spliced b (recordAt k) blankRecord
+
+  lx : length x ≡ 240
+  lx = length-part b (entryAt m k) 240 (omega (arith, entry-fits m k km, size))
+
+  lr : length r ≡ 34
+  lr = ap length (sym here) ∙ length-part b (recordAt k) 34 (omega (arith, record-fits m k km, size))
+
+  la : length a ≡ length b
+  la = length-spliced b (recordAt k) blankRecord (omega (arith, length-blank, record-fits m k km, size))
+
+  entry-stays : spliced a (entryAt m k) x ≡ a
+  entry-stays =
+      spliced-comm b (recordAt k) (entryAt m k) blankRecord x (omega (arith, length-blank, record-first m k km)) (omega (arith, lx, entry-fits m k km, size))
+      ∙ ap (λ (z : Bytes). spliced z (recordAt k) blankRecord) (spliced-back b (entryAt m k) 240 (omega (arith, entry-fits m k km, size)))
+
+  pub torn-append : spliced (spliced a (entryAt m k) x) (recordAt k) r ≡ b
+  torn-append =
+      ap (λ (z : Bytes). spliced z (recordAt k) r) entry-stays
+      ∙ spliced-twice b (recordAt k) blankRecord (omega (arith, length-blank, record-fits m k km, size)) r (omega (arith, lr, length-blank))
+      ∙ ap (spliced b (recordAt k)) (sym here)
+      ∙ spliced-back b (recordAt k) 34 (omega (arith, record-fits m k km, size))
+
+  pub damaged-entry : (v : Bytes) → length v ≡ 240 → spliced (spliced (spliced a (entryAt m k) v) (recordAt k) r) (entryAt m k) x ≡ b
+  damaged-entry v lv =
+      let w = length-spliced a (entryAt m k) v (omega (arith, lv, la, entry-fits m k km, size)) in
+      spliced-comm (spliced a (entryAt m k) v) (recordAt k) (entryAt m k) r x (omega (arith, lr, record-first m k km)) (omega (arith, w, lx, la, entry-fits m k km, size))
+      ∙ ap (λ (z : Bytes). spliced z (recordAt k) r) (spliced-twice a (entryAt m k) v (omega (arith, lv, la, entry-fits m k km, size)) x (omega (arith, lx, lv)))
+      ∙ torn-append
+
+-- ---- the append that both histories share
+
+module _ (c n m : ℕ) (b : Bytes) (k : ℕ) (r : readRefusal c n m b ≡ 0) (last : logLength m (decodeImage c n m b) ≡ suc k)
+    (faulty : conditionAt (decodeImage c n m b) k ≡ Faulty) (p : Bytes) (short : length p ≤ 200) where
+  abbrev i : Image
+  i = decodeImage c n m b
+
+  abbrev e : ℕ
+  e = epochAt i k
+
+  abbrev before : Bytes
+  before = spliced b (recordAt k) blankRecord
+
+  km : k < m
+  km = omega (arith, length-le m i, last)
+
+  size : length b ≡ imageSize m
+  size = readable-size c n m b r
+
+  sound : Sound m i
+  sound = readable-image c n m b r
+
+  slot : (i .records k ≡ good e) × ((q : Bytes) → i .entries k ≡ intact e q → ⊥)
+  unfolding epochAt
+  slot = faulty-slot (i .records k) (i .entries k) (unfold conditionAt in faulty)
+
+  written : GoodFor (suc k) e (part b (recordAt k) 34)
+  written = good-for (suc k) (part b (recordAt k) 34) e (sym (record-there c n m b k km) ∙ slot .0)
+
+  blanked : decodeImage c n m before ≡ setRecord i k blank
+  blanked = record-spliced c n m b size k km blankRecord length-blank ∙ ap (setRecord i k) (read-blank (suc k))
+
+  unused : logLength m (decodeImage c n m before) ≡ k
+  unused = rw blanked (blanked-length m i k sound last)
+
+  rising : (j : ℕ) → j ≡ k → lastEpoch m (decodeImage c n m before) ≤ e
+  rising zero q = unfold lastEpoch in rw (unused, ← q) (omega arith)
+  rising (suc j) q =
+      rw (last-epoch m (decodeImage c n m before) j (q ∙ sym unused), blanked, record-epoch-other m i k blank j (omega arith))
+      (rw q at (sound .rise j (omega arith)))
+
+  accepts : Accepts c n m before e (length p)
+  accepts = record {
+    readable = readable-still c n m b before (length-spliced b (recordAt k) blankRecord (omega (arith, length-blank, record-fits m k km, size))) r (rw blanked (blanked-sound m i k sound last));
+    positive = epoch-low e (written .epoch);
+    rising = rising k refl;
+    short = short;
+    room = rw unused km;
+  }
+
+  accepted : appendRefusal c n m before e (length p) ≡ 0
+  accepted = accepts-intro c n m before e (length p) accepts
+
+  pub two-histories : TwoHistories c n m before b k e p (part b (entryAt m k) 240)
+  unfolding stored
+  two-histories = record {
+    accepted = accepted;
+    slot = unused;
+    stored = rw unused at (one-more c n m before e p (appended c n m before e p) (epoch-high e (written .epoch)) accepts (appended-stored c n m before e p accepted) .verdict-here);
+    size = length-part b (entryAt m k) 240 (omega (arith, entry-fits m k km, size));
+    faulty = λ q y. slot .1 q (entry-there c n m b k km ∙ y);
+    crash = torn-append m b k km size (recordBytes e (suc k)) (written .bytes);
+    damage =
+        ap (λ (z : Bytes). spliced z (entryAt m k) (part b (entryAt m k) 240)) (appended-stored c n m before e p accepted ∙ rw unused refl)
+        ∙ damaged-entry m b k km size (recordBytes e (suc k)) (written .bytes) (entryBytes e (suc k) p) (length-entry e (suc k) p short);
+  }
+
+pub untold : (c n m : ℕ) (b : Bytes) (k : ℕ) → readRefusal c n m b ≡ 0 → verdictAt m (decodeImage c n m b) k ≡ 4 → (p : Bytes) → length p ≤ 200
+    → TwoHistories c n m (spliced b (recordAt k) blankRecord) b k (epochAt (decodeImage c n m b) k) p (part b (entryAt m k) 240)
+unfolding verdictAt
+untold c n m b k r v p short =
+    let w = last-faulty _ k _ _ v in
+    two-histories c n m b k r (w .1) (w .0) p short

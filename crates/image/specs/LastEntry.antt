@@ -1,0 +1,30 @@
+-- Source document 003, appendix A: whether a crash or damage made the last entry faulty cannot be told from one image.
+use Prim.Native.Nat.{ℕ, suc, _≤_}
+use mathlib.Core.Path.{_≡_}
+use lib.ListN.{length}
+use Rattle.slices.specs.Parts.{Bytes, part, spliced}
+use Rattle.record.specs.Layout.{recordBytes, blankRecord}
+use Rattle.record.specs.Meaning.{intact, readEntry}
+use Rattle.image.specs.Image.{recordAt, entryAt, decodeImage}
+use Rattle.image.specs.View.{epochAt, logLength, readRefusal}
+use Rattle.image.specs.Verdict.{verdictAt}
+use Rattle.image.specs.Append.{appendRefusal, appended}
+
+-- image b, from the same image a, in two ways. Epoch e and payload p are appended to a, at slot k, and x are 240 bytes that are no
+-- intact entry of that epoch
+pub record TwoHistories (c n m : ℕ) (a b : Bytes) (k e : ℕ) (p x : Bytes) : Type 0 where
+  pub accepted : appendRefusal c n m a e (length p) ≡ 0
+  pub slot : logLength m (decodeImage c n m a) ≡ k
+  pub stored : verdictAt m (decodeImage c n m (appended c n m a e p)) k ≡ 1
+  pub size : length x ≡ 240
+  pub faulty : (q : Bytes) → readEntry (suc k) x ≡ intact e q → ⊥
+  -- a crash during the append: its record arrived, and x is what stands in place of its entry
+  pub crash : spliced (spliced a (entryAt m k) x) (recordAt k) (recordBytes e (suc k)) ≡ b
+  -- damage after the append: it was stored, and its entry became x
+  pub damage : spliced (appended c n m a e p) (entryAt m k) x ≡ b
+
+-- every image with verdict 4 at slot k has both histories, whatever payload was appended: a is b with that slot's record blank
+pub record LastEntry : Type 0 where
+  pub untold : (c n m : ℕ) (b : Bytes) (k : ℕ) → readRefusal c n m b ≡ 0 → verdictAt m (decodeImage c n m b) k ≡ 4
+      → (p : Bytes) → length p ≤ 200
+      → TwoHistories c n m (spliced b (recordAt k) blankRecord) b k (epochAt (decodeImage c n m b) k) p (part b (entryAt m k) 240)
