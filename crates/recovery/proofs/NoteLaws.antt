@@ -85,20 +85,20 @@ noted-entry s c k h d S W n leader cn km ok f =
     subst (λ (X : ℕ → View). SurveyOf S X n leader (s .readable) (s .lengths) (s .conditions) (s .epochs)) (sym z) f
 
 module _ (s r : Survey) (c k : ℕ) where
-  pub noted-blank : SlotSet s r c k k 0 0 → Noted (storeBlank c k) s r
+  pub noted-blank : {x : ℕ} → SlotSet s r c k k x 0 → x ≡ conditionNumber Unused → Noted (storeBlank c k) s r
   unfolding viewsAfter seenAfter storeReplica storeSlot
-  noted-blank t S W n leader cn km ok f = slot-set S W c k k Unused 0 n leader s r t cn km ok (omega arith) f
+  noted-blank t z S W n leader cn km ok f = slot-set S W c k k Unused 0 n leader s r (rw z at t) cn km ok (omega arith) f
 
-  pub noted-record : {l : ℕ} (e : ℕ) → l ≡ cond (ltb k (getD (s .lengths) c 0)) (getD (s .lengths) c 0) (suc k) → SlotSet s r c k l 1 e → Noted (storeRecord c k e) s r
+  pub noted-record : {l : ℕ} (e : ℕ) → l ≡ cond (ltb k (getD (s .lengths) c 0)) (getD (s .lengths) c 0) (suc k) → {x : ℕ} → SlotSet s r c k l x e → x ≡ conditionNumber Whole → Noted (storeRecord c k e) s r
   unfolding viewsAfter seenAfter storeReplica storeSlot
-  noted-record {l} e q t S W n leader cn km ok f =
+  noted-record {l} e q t y S W n leader cn km ok f =
       let i = f .surveyed .length-is c cn ok in
       let z : l ≡ cond (ltb k (W c .length)) (W c .length) (suc k) = rw (← i) q in
-      rw (← z) (slot-set S W c k l Whole e n leader s r t cn km ok (either (ltb k (W c .length)) l (W c .length) (suc k) z (f .logs-fit c) km) f)
+      rw (← z) (slot-set S W c k l Whole e n leader s r (rw y at t) cn km ok (either (ltb k (W c .length)) l (W c .length) (suc k) z (f .logs-fit c) km) f)
 
-  pub noted-mended : k < getD (s .lengths) c 0 → SlotSet s r c k (getD (s .lengths) c 0) 1 (getD (s .epochs) (c * 64 + k) 0) → (d : ℕ) → Noted (storeEntry c k d) s r
+  pub noted-mended : k < getD (s .lengths) c 0 → {x : ℕ} → SlotSet s r c k (getD (s .lengths) c 0) x (getD (s .epochs) (c * 64 + k) 0) → x ≡ conditionNumber Whole → (d : ℕ) → Noted (storeEntry c k d) s r
   unfolding viewsAfter seenAfter storeReplica storeSlot
-  noted-mended h t d S W n leader cn km ok f =
+  noted-mended h t y d S W n leader cn km ok f =
       let i = f .surveyed .length-is c cn ok in
       let j = f .surveyed .epoch-is c k cn km ok in
-      rw (lt-ltb k (W c .length) (omega arith)) (slot-set S W c k (W c .length) Whole (W c .epoch k) n leader s r (rw (i, j) at t) cn km ok (f .logs-fit c) f)
+      rw (lt-ltb k (W c .length) (omega arith)) (slot-set S W c k (W c .length) Whole (W c .epoch k) n leader s r (rw (i, j, y) at t) cn km ok (f .logs-fit c) f)

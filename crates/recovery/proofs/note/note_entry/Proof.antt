@@ -30,7 +30,7 @@ with-slot-requires : tie.Need-with-slot-requires
 with-slot-requires c κs = search needs
 
 returns-2 : tie.Need-returns-2
-returns-2 c = noted-mended _ _ _ _ (omega arith) (c .with-slot .ensures)
+returns-2 c = noted-mended _ _ _ _ (omega arith) (c .with-slot .ensures) (omega arith)
 
 pub note-entry-spec : {M : Type 1} → statement M
 note-entry-spec =

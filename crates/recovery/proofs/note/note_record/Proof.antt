@@ -1,5 +1,6 @@
 -- `note_record` makes a slot whole, whether it was used or not.
 use Rattle.recovery.proofs.NoteLaws.{noted-record}
+use native.Mathlib.Omega.{arith}
 use borrow.Author.Needs.{needs}
 use Rattle.recovery.proofs.note.note_record.Statement.{statement}
 use Rattle.recovery.proofs.note.note_record.Tie as tie
@@ -17,7 +18,7 @@ with-slot-requires : tie.Need-with-slot-requires
 with-slot-requires c κs = search needs
 
 returns : tie.Need-returns
-returns c = noted-record _ _ _ _ _ (c .before .length-with .ensures) (c .with-slot .ensures)
+returns c = noted-record _ _ _ _ _ (c .before .length-with .ensures) (c .with-slot .ensures) (omega arith)
 
 pub note-record-spec : {M : Type 1} → statement M
 note-record-spec =
