@@ -3,6 +3,7 @@
 
 use std::thread;
 
+use harness::generate::recovery_case;
 use harness::generate::{agreed_case, arbitrary_case, noise_cluster, Case, Cluster, Rng};
 use harness::guarded::{Guarded, GuardedNumber};
 use harness::model::{self, Answer, Refusal, ReplicaRow, RunAnswer, RunEnd, StepAnswer, MAX_SLOTS};
@@ -11,7 +12,7 @@ use harness::proved::clusters as proved;
 
 const CLUSTERS: u64 = 1_000_000;
 /// Clusters that are stepped and run to their ends.
-const RECOVERIES: u64 = 30_000;
+const RECOVERIES: u64 = 1_000_000;
 const THREADS: u64 = 2;
 
 /// How often each refusal came, by its number, 0 for none; each status; each byte of a plan; a row of
@@ -281,13 +282,16 @@ fn tables_of_another_length() {
     }
 }
 
-/// How recoveries went: each refusal, each status of a step and of a run, each kind of store.
+/// How recoveries went: each refusal, each status of a step and of a run, each kind of store, each
+/// number of replicas, and how many took so many stores: none, some, 10 or more, 100 or more.
 #[derive(Clone, Debug, Default, PartialEq, Eq)]
 struct Recoveries {
     refusals: [u64; 14],
     steps: [u64; 3],
     runs: [u64; 3],
     kinds: [u64; 4],
+    replicas: [u64; 8],
+    lengths: [u64; 4],
 }
 
 impl Recoveries {
@@ -297,6 +301,8 @@ impl Recoveries {
             (&mut self.steps, &other.steps),
             (&mut self.runs, &other.runs),
             (&mut self.kinds, &other.kinds),
+            (&mut self.replicas, &other.replicas),
+            (&mut self.lengths, &other.lengths),
         ];
         for (sum, more) in pairs {
             for (sum, more) in sum.iter_mut().zip(more) {
@@ -304,127 +310,174 @@ impl Recoveries {
             }
         }
     }
+
+    /// Everything came up, most of it often.
+    fn assert_covers(&self, clusters: u64) {
+        for number in [0, 1, 2, 3, 11, 12] {
+            assert!(self.refusals[number] * 1000 >= clusters, "{self:?}");
+        }
+        let each = [&self.steps[..], &self.runs, &self.kinds[1..]].concat();
+        let enough = |&count: &u64| count * 100 >= clusters;
+        assert!(each.iter().all(enough), "{self:?}");
+        let replicas = [3, 5, 7].map(|n| self.replicas[n]);
+        assert!(replicas.iter().all(enough), "{self:?}");
+        assert!(self.lengths[2] * 100 >= clusters, "{self:?}");
+        assert!(self.lengths[3] >= 10, "{self:?}");
+    }
 }
 
-/// A step by both on the same bytes. Answers the model's, and leaves what the step left.
-fn compare_step(
-    rng: &mut Rng,
-    case: &Case,
-    now: &mut [u8],
-    seen: &mut Recoveries,
-) -> Result<StepAnswer, Refusal> {
-    let &Case {
-        n,
-        m,
-        leader,
-        present,
-        ..
-    } = case;
-    let mut cluster = Guarded::new(rng, now);
-    let old = (rng.byte(), rng.draw() as usize, rng.draw() as usize);
-    let old_kind = rng.byte();
-    let mut status = GuardedNumber::new(old.0, rng.byte());
-    let mut replica = GuardedNumber::new(old.1, rng.draw() as usize);
-    let mut slot = GuardedNumber::new(old.2, rng.draw() as usize);
-    let mut kind = GuardedNumber::new(old_kind, rng.byte());
-    let answer = proved::step(
-        cluster.part_mut(),
-        n,
-        m,
-        leader,
-        present,
-        status.number_mut(),
-        replica.number_mut(),
-        slot.number_mut(),
-        kind.number_mut(),
-    );
-    let expected = model::step(now, n, m, leader, present);
-    assert_eq!(answer, number(expected), "step");
-    let named = match expected {
-        Err(_) => (old.0, old.1, old.2, old_kind),
-        Ok(StepAnswer::Done) => (0, old.1, old.2, old_kind),
-        Ok(StepAnswer::Waiting(slot)) => (1, old.1, slot, old_kind),
-        Ok(StepAnswer::Store {
-            replica,
-            slot,
-            kind,
-        }) => (2, replica, slot, kind as u8),
-    };
-    status.assert_is(named.0);
-    replica.assert_is(named.1);
-    slot.assert_is(named.2);
-    kind.assert_is(named.3);
-    cluster.assert_holds(now);
-    seen.refusals[usize::from(answer)] += 1;
-    if let Ok(step) = expected {
-        seen.steps[usize::from(named.0)] += 1;
-        if let StepAnswer::Store { kind, .. } = step {
-            seen.kinds[kind as usize] += 1;
+/// A cluster that both sides work on, the proved one between guards.
+struct Sides<'a> {
+    case: &'a Case,
+    proved: Guarded,
+    model: Vec<u8>,
+}
+
+impl Sides<'_> {
+    fn new<'a>(rng: &mut Rng, case: &'a Case) -> Sides<'a> {
+        Sides {
+            case,
+            proved: Guarded::new(rng, &case.cluster),
+            model: case.cluster.clone(),
         }
     }
-    expected
-}
 
-/// A run by both.
-fn compare_run(rng: &mut Rng, case: &Case, budget: u64, seen: &mut Recoveries) {
-    let &Case {
-        n,
-        m,
-        leader,
-        present,
-        ..
-    } = case;
-    let mut cluster = Guarded::new(rng, &case.cluster);
-    let old = (rng.byte(), rng.draw(), rng.draw() as usize);
-    let mut status = GuardedNumber::new(old.0, rng.byte());
-    let mut stores = GuardedNumber::new(old.1, rng.draw());
-    let mut slot = GuardedNumber::new(old.2, rng.draw() as usize);
-    let answer = proved::run(
-        cluster.part_mut(),
-        n,
-        m,
-        leader,
-        present,
-        budget,
-        status.number_mut(),
-        stores.number_mut(),
-        slot.number_mut(),
-    );
-    let mut after = case.cluster.clone();
-    let expected = model::run(&mut after, n, m, leader, present, budget);
-    assert_eq!(answer, number(expected), "run of budget {budget}");
-    let named = match expected {
-        Err(_) => old,
-        Ok(RunAnswer { end, stores }) => match end {
-            RunEnd::Done => (0, stores, old.2),
-            RunEnd::Waiting(slot) => (1, old.1, slot),
-            RunEnd::Spent => (2, stores, old.2),
-        },
-    };
-    status.assert_is(named.0);
-    stores.assert_is(named.1);
-    slot.assert_is(named.2);
-    cluster.assert_holds(&after);
-    seen.refusals[usize::from(answer)] += 1;
-    if expected.is_ok() {
-        seen.runs[usize::from(named.0)] += 1;
+    /// Both as they were at first.
+    fn begin_again(&mut self) {
+        self.proved.part_mut().copy_from_slice(&self.case.cluster);
+        self.model.copy_from_slice(&self.case.cluster);
+    }
+
+    /// A step by both; answers the model's.
+    fn step(&mut self, rng: &mut Rng, seen: &mut Recoveries) -> Result<StepAnswer, Refusal> {
+        let &Case {
+            n,
+            m,
+            leader,
+            present,
+            ..
+        } = self.case;
+        let old = (rng.byte(), rng.draw() as usize, rng.draw() as usize);
+        let old_kind = rng.byte();
+        let mut status = GuardedNumber::new(old.0, rng.byte());
+        let mut replica = GuardedNumber::new(old.1, rng.draw() as usize);
+        let mut slot = GuardedNumber::new(old.2, rng.draw() as usize);
+        let mut kind = GuardedNumber::new(old_kind, rng.byte());
+        let answer = proved::step(
+            self.proved.part_mut(),
+            n,
+            m,
+            leader,
+            present,
+            status.number_mut(),
+            replica.number_mut(),
+            slot.number_mut(),
+            kind.number_mut(),
+        );
+        let expected = model::step(&mut self.model, n, m, leader, present);
+        assert_eq!(answer, number(expected), "step");
+        let named = match expected {
+            Err(_) => (old.0, old.1, old.2, old_kind),
+            Ok(StepAnswer::Done) => (0, old.1, old.2, old_kind),
+            Ok(StepAnswer::Waiting(slot)) => (1, old.1, slot, old_kind),
+            Ok(StepAnswer::Store {
+                replica,
+                slot,
+                kind,
+            }) => (2, replica, slot, kind as u8),
+        };
+        status.assert_is(named.0);
+        replica.assert_is(named.1);
+        slot.assert_is(named.2);
+        kind.assert_is(named.3);
+        self.proved.assert_holds(&self.model);
+        seen.refusals[usize::from(answer)] += 1;
+        if let Ok(step) = expected {
+            seen.steps[usize::from(named.0)] += 1;
+            if let StepAnswer::Store { kind, .. } = step {
+                seen.kinds[kind as usize] += 1;
+            }
+        }
+        expected
+    }
+
+    /// A run by both from the beginning; answers the model's.
+    fn run(
+        &mut self,
+        rng: &mut Rng,
+        budget: u64,
+        seen: &mut Recoveries,
+    ) -> Result<RunAnswer, Refusal> {
+        let &Case {
+            n,
+            m,
+            leader,
+            present,
+            ..
+        } = self.case;
+        self.begin_again();
+        let old = (rng.byte(), rng.draw(), rng.draw() as usize);
+        let mut status = GuardedNumber::new(old.0, rng.byte());
+        let mut stores = GuardedNumber::new(old.1, rng.draw());
+        let mut slot = GuardedNumber::new(old.2, rng.draw() as usize);
+        let answer = proved::run(
+            self.proved.part_mut(),
+            n,
+            m,
+            leader,
+            present,
+            budget,
+            status.number_mut(),
+            stores.number_mut(),
+            slot.number_mut(),
+        );
+        let expected = model::run(&mut self.model, n, m, leader, present, budget);
+        assert_eq!(answer, number(expected), "run of budget {budget}");
+        let named = match expected {
+            Err(_) => old,
+            Ok(RunAnswer { end, stores }) => match end {
+                RunEnd::Done => (0, stores, old.2),
+                RunEnd::Waiting(slot) => (1, old.1, slot),
+                RunEnd::Spent => (2, stores, old.2),
+            },
+        };
+        status.assert_is(named.0);
+        stores.assert_is(named.1);
+        slot.assert_is(named.2);
+        self.proved.assert_holds(&self.model);
+        seen.refusals[usize::from(answer)] += 1;
+        if expected.is_ok() {
+            seen.runs[usize::from(named.0)] += 1;
+        }
+        expected
     }
 }
 
-/// Steps to the end, and runs of no budget, of some, of one store too few, and of enough.
-fn compare_recovery(rng: &mut Rng, planning: &Planning) -> Recoveries {
-    let _shown = Shown(planning);
+/// Steps to the end, a run to the end, and one of a drawn budget.
+fn compare_recovery(rng: &mut Rng, case: Case) -> Recoveries {
+    let planning = Planning {
+        case,
+        slots: 0,
+        rows: 0,
+    };
+    let _shown = Shown(&planning);
     let case = &planning.case;
     let mut seen = Recoveries::default();
-    let mut now = case.cluster.clone();
+    let mut sides = Sides::new(rng, case);
     let mut stores: u64 = 0;
-    while let Ok(StepAnswer::Store { .. }) = compare_step(rng, case, &mut now, &mut seen) {
+    while let Ok(StepAnswer::Store { .. }) = sides.step(rng, &mut seen) {
         stores += 1;
     }
-    let some = rng.below(stores as usize + 2) as u64;
-    for budget in [0, some, stores.saturating_sub(1), stores, u64::MAX] {
-        compare_run(rng, case, budget, &mut seen);
+    let stepped = sides.model.clone();
+    if let Ok(whole) = sides.run(rng, u64::MAX, &mut seen) {
+        assert_eq!(whole.stores, stores, "the run counts as many stores");
+        assert_eq!(sides.model, stepped, "the run leaves what the steps left");
+        seen.replicas[case.n] += 1;
+        seen.lengths[[0, 1, 10, 100].iter().filter(|&&few| stores >= few).count() - 1] += 1;
     }
+    let some = rng.below(stores as usize + 2) as u64;
+    let budget = *rng.pick(&[0, some, some, stores.saturating_sub(1), stores]);
+    let _ = sides.run(rng, budget, &mut seen);
     seen
 }
 
@@ -434,8 +487,8 @@ fn recoveries() {
         let mut seen = Recoveries::default();
         for number in (from..RECOVERIES).step_by(THREADS as usize) {
             let mut rng = case_rng(12, number);
-            let planning = some_planning(&mut rng);
-            seen.add(&compare_recovery(&mut rng, &planning));
+            let case = recovery_case(&mut rng);
+            seen.add(&compare_recovery(&mut rng, case));
         }
         seen
     };
@@ -448,9 +501,5 @@ fn recoveries() {
             seen.add(&part.join().expect("a case failed"));
         }
     });
-    for number in [0, 1, 2, 3, 11, 12] {
-        assert!(seen.refusals[number] >= 100, "{seen:?}");
-    }
-    let rest = [&seen.steps[..], &seen.runs, &seen.kinds[1..]];
-    assert!(rest.concat().iter().all(|&count| count >= 100), "{seen:?}");
+    seen.assert_covers(RECOVERIES);
 }

@@ -10,6 +10,11 @@ use super::Case;
 pub fn arbitrary_case(rng: &mut Rng) -> Case {
     let n = *rng.pick(&[3, 3, 3, 5, 5, 7]);
     let m = some_slot_count(rng);
+    arbitrary_case_of(rng, n, m)
+}
+
+/// The same with n replicas of m slots.
+pub fn arbitrary_case_of(rng: &mut Rng, n: usize, m: usize) -> Case {
     let leader = rng.between(1, n);
     let mut cluster = Cluster::fresh(n, m);
     for replica in 1..=n {

@@ -64,6 +64,11 @@ type ReplicaLog = Vec<(Appended, Arrival)>;
 pub fn agreed_case(rng: &mut Rng) -> AgreedCase {
     let n = *rng.pick(&[3, 3, 3, 5, 5, 7]);
     let m = some_slot_count(rng);
+    agreed_case_of(rng, n, m)
+}
+
+/// The same with n replicas of m slots.
+pub fn agreed_case_of(rng: &mut Rng, n: usize, m: usize) -> AgreedCase {
     let logs = replica_logs(rng, n, m);
     let leader = some_leader(rng, &logs);
     let mut cluster = write_logs(rng, n, m, &logs);

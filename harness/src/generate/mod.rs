@@ -8,6 +8,7 @@ pub mod history;
 pub mod images;
 pub mod noise;
 pub mod pieces;
+pub mod recovery;
 pub mod rng;
 pub mod small;
 
@@ -18,6 +19,7 @@ pub use history::{agreed_case, AgreedCase, Committed};
 pub use images::{image_calls, ImageCalls};
 pub use noise::{noise_cluster, noise_image, noise_report_input, ImageCase};
 pub use pieces::{entry_piece, header_piece, record_piece, HeaderPiece, Piece};
+pub use recovery::recovery_case;
 pub use rng::Rng;
 pub use small::{small_case, SMALL_CASES};
 

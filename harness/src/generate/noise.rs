@@ -1,8 +1,8 @@
 //! Noise: images and clusters of any bytes and any length, mutated ones among them.
 
-use super::arbitrary::arbitrary_case;
+use super::arbitrary::{arbitrary_case, arbitrary_case_of};
 use super::damage::{flip_one_byte, some_entry};
-use super::history::agreed_case;
+use super::history::{agreed_case, agreed_case_of};
 use super::rng::Rng;
 use super::Case;
 use crate::model::{entry_offset, image_len, image_offset, record_offset, write_record};
@@ -41,7 +41,21 @@ pub fn noise_image(rng: &mut Rng) -> ImageCase {
 
 /// A cluster spoilt in some way or none, with numbers that may not fit it.
 pub fn noise_cluster(rng: &mut Rng) -> Case {
-    let mut case = some_cluster(rng);
+    let case = some_cluster(rng);
+    spoil_cluster(rng, case)
+}
+
+/// The same with n replicas of m slots, before it is spoilt.
+pub fn noise_cluster_of(rng: &mut Rng, n: usize, m: usize) -> Case {
+    let case = if rng.chance(50) {
+        agreed_case_of(rng, n, m).case
+    } else {
+        arbitrary_case_of(rng, n, m)
+    };
+    spoil_cluster(rng, case)
+}
+
+fn spoil_cluster(rng: &mut Rng, mut case: Case) -> Case {
     for replica in 1..=case.n {
         if rng.chance(20) {
             let at = image_offset(case.m, replica);

@@ -1,0 +1,35 @@
+//! Clusters to be recovered: mostly small ones, so that many are, and some of every size.
+
+use super::arbitrary::arbitrary_case_of;
+use super::history::agreed_case_of;
+use super::noise::noise_cluster_of;
+use super::rng::Rng;
+use super::Case;
+use crate::model::MAX_SLOTS;
+
+/// A cluster of any kind: agreed and damaged, arbitrary, or spoilt.
+pub fn recovery_case(rng: &mut Rng) -> Case {
+    let (n, m) = some_shape(rng);
+    let mut case = match rng.below(10) {
+        0..=5 => agreed_case_of(rng, n, m).case,
+        6..=7 => arbitrary_case_of(rng, n, m),
+        _ => noise_cluster_of(rng, n, m),
+    };
+    if rng.chance(1) {
+        case.leader = *rng.pick(&[0, 1, case.n, case.n.wrapping_add(1), 8, 32, 33, usize::MAX]);
+    }
+    case
+}
+
+/// n and m. A recovery's cost grows with the square of both.
+fn some_shape(rng: &mut Rng) -> (usize, usize) {
+    match rng.below(100_000) {
+        0..=3 => (7, MAX_SLOTS),
+        4..=33 => (*rng.pick(&[3, 5, 7]), rng.between(13, MAX_SLOTS)),
+        34..=2000 => (*rng.pick(&[3, 5, 7]), rng.between(4, 12)),
+        _ => (
+            *rng.pick(&[3, 3, 3, 3, 3, 5, 5, 7]),
+            *rng.pick(&[1, 1, 1, 2, 2, 3]),
+        ),
+    }
+}
