@@ -7,6 +7,7 @@ use crate::generate::Rng;
 /// Guards before the part are at least this many, and behind it exactly.
 const GUARD: usize = 32;
 
+#[derive(Debug)]
 pub struct Guarded<T = u8> {
     items: Vec<T>,
     start: usize,
@@ -60,13 +61,36 @@ fn guard<T: From<u8>>(pattern: u64, at: usize) -> T {
     T::from((pattern >> (8 * (at % 8))) as u8 ^ at as u8)
 }
 
+/// A number of some width that a call may hand out.
+pub trait Number: Copy + PartialEq + Debug {
+    fn wide(self) -> u64;
+    /// The lowest digits of a wider one.
+    fn narrow(wide: u64) -> Self;
+}
+
+macro_rules! number {
+    ($($type:ty),*) => {
+        $(impl Number for $type {
+            fn wide(self) -> u64 {
+                self as u64
+            }
+
+            fn narrow(wide: u64) -> $type {
+                wide as $type
+            }
+        })*
+    };
+}
+
+number!(u8, u32, u64, usize);
+
 /// A lent number between two others that no call may change.
 pub struct GuardedNumber<T> {
     numbers: [T; 3],
     sides: T,
 }
 
-impl<T: Copy + PartialEq + Debug> GuardedNumber<T> {
+impl<T: Number> GuardedNumber<T> {
     pub fn new(number: T, sides: T) -> GuardedNumber<T> {
         GuardedNumber {
             numbers: [sides, number, sides],
@@ -74,8 +98,24 @@ impl<T: Copy + PartialEq + Debug> GuardedNumber<T> {
         }
     }
 
+    /// Any number.
+    pub fn drawn(rng: &mut Rng) -> GuardedNumber<T> {
+        GuardedNumber::new(T::narrow(rng.draw()), T::narrow(rng.draw()))
+    }
+
+    pub fn number(&self) -> T {
+        self.numbers[1]
+    }
+
     pub fn number_mut(&mut self) -> &mut T {
         &mut self.numbers[1]
+    }
+
+    /// The offset of a side that is not as it was.
+    pub fn broken_guard(&self) -> Option<isize> {
+        [-1, 1]
+            .into_iter()
+            .find(|at| self.numbers[(1 + at) as usize] != self.sides)
     }
 
     /// Panics unless it is this number and its sides are as they were.
@@ -87,6 +127,17 @@ impl<T: Copy + PartialEq + Debug> GuardedNumber<T> {
 #[cfg(test)]
 mod tests {
     use super::*;
+
+    #[test]
+    fn a_changed_side_is_found() {
+        let mut number = GuardedNumber::new(7u32, 9);
+        *number.number_mut() = 8;
+        assert_eq!((number.number(), number.broken_guard()), (8, None));
+        number.numbers[2] = 8;
+        assert_eq!(number.broken_guard(), Some(1));
+        number.numbers[0] = 8;
+        assert_eq!(number.broken_guard(), Some(-1));
+    }
 
     #[test]
     fn every_changed_guard_is_found() {

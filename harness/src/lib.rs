@@ -4,10 +4,14 @@
 //! Beside it stand the proved functions that it is compared with.
 
 pub mod bench;
+pub mod call;
 pub mod code;
+pub mod compare;
 pub mod generate;
 pub mod guarded;
 pub mod model;
 pub mod property;
 pub mod proved;
 pub mod samples;
+pub mod side;
+pub mod tally;

@@ -2,6 +2,8 @@
 //!
 //! A number that a call hands out goes to a lent one, which keeps its value otherwise.
 
+// The calls have as many arguments as the exported ones.
+#[allow(clippy::too_many_arguments)]
 pub mod clusters;
 pub mod images;
 

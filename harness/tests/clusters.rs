@@ -3,12 +3,15 @@
 
 use std::thread;
 
+use harness::call::Call;
+use harness::compare::{agree, Outcome};
 use harness::generate::recovery_case;
 use harness::generate::{agreed_case, arbitrary_case, noise_cluster, Case, Cluster, Rng};
 use harness::guarded::{Guarded, GuardedNumber};
-use harness::model::{self, Answer, Refusal, ReplicaRow, RunAnswer, RunEnd, StepAnswer, MAX_SLOTS};
+use harness::model::{self, Answer, Refusal, ReplicaRow, MAX_SLOTS};
 use harness::property::case_rng;
 use harness::proved::clusters as proved;
+use harness::tally::{each_case, Tally};
 
 const CLUSTERS: u64 = 1_000_000;
 /// Clusters that are stepped and run to their ends.
@@ -282,224 +285,60 @@ fn tables_of_another_length() {
     }
 }
 
-/// How recoveries went: each refusal, each status of a step and of a run, each kind of store, each
-/// number of replicas, and how many took so many stores: none, some, 10 or more, 100 or more.
-#[derive(Clone, Debug, Default, PartialEq, Eq)]
-struct Recoveries {
-    refusals: [u64; 14],
-    steps: [u64; 3],
-    runs: [u64; 3],
-    kinds: [u64; 4],
-    replicas: [u64; 8],
-    lengths: [u64; 4],
+/// Makes a call of a recovery by both; counts how it went, unless it is refused.
+fn compare_call(rng: &mut Rng, call: &Call, tally: &mut Tally) -> Option<(Outcome, u64)> {
+    let outcome = agree(rng, call);
+    tally.count("refusal", outcome.answer.code());
+    if outcome.answer.code() != 0 {
+        return None;
+    }
+    let status = outcome.number("status");
+    tally.count(call.name(), status as usize);
+    Some((outcome, status))
 }
 
-impl Recoveries {
-    fn add(&mut self, other: &Recoveries) {
-        let pairs = [
-            (&mut self.refusals[..], &other.refusals[..]),
-            (&mut self.steps, &other.steps),
-            (&mut self.runs, &other.runs),
-            (&mut self.kinds, &other.kinds),
-            (&mut self.replicas, &other.replicas),
-            (&mut self.lengths, &other.lengths),
-        ];
-        for (sum, more) in pairs {
-            for (sum, more) in sum.iter_mut().zip(more) {
-                *sum += more;
-            }
-        }
+/// Steps to the end. Answers the cluster that they leave and how many stores they made.
+fn compare_steps(rng: &mut Rng, case: &Case, tally: &mut Tally) -> (Vec<u8>, u64) {
+    let mut now = case.clone();
+    let mut stores = 0;
+    while let Some((step, 2)) = compare_call(rng, &now.step(), tally) {
+        tally.count("kind", step.number("kind") as usize);
+        now.cluster.copy_from_slice(step.bytes("cluster"));
+        stores += 1;
     }
-
-    /// Everything came up, most of it often.
-    fn assert_covers(&self, clusters: u64) {
-        for number in [0, 1, 2, 3, 11, 12] {
-            assert!(self.refusals[number] * 1000 >= clusters, "{self:?}");
-        }
-        let each = [&self.steps[..], &self.runs, &self.kinds[1..]].concat();
-        let enough = |&count: &u64| count * 100 >= clusters;
-        assert!(each.iter().all(enough), "{self:?}");
-        let replicas = [3, 5, 7].map(|n| self.replicas[n]);
-        assert!(replicas.iter().all(enough), "{self:?}");
-        assert!(self.lengths[2] * 100 >= clusters, "{self:?}");
-        assert!(self.lengths[3] >= 10, "{self:?}");
-    }
-}
-
-/// A cluster that both sides work on, the proved one between guards.
-struct Sides<'a> {
-    case: &'a Case,
-    proved: Guarded,
-    model: Vec<u8>,
-}
-
-impl Sides<'_> {
-    fn new<'a>(rng: &mut Rng, case: &'a Case) -> Sides<'a> {
-        Sides {
-            case,
-            proved: Guarded::new(rng, &case.cluster),
-            model: case.cluster.clone(),
-        }
-    }
-
-    /// Both as they were at first.
-    fn begin_again(&mut self) {
-        self.proved.part_mut().copy_from_slice(&self.case.cluster);
-        self.model.copy_from_slice(&self.case.cluster);
-    }
-
-    /// A step by both; answers the model's.
-    fn step(&mut self, rng: &mut Rng, seen: &mut Recoveries) -> Result<StepAnswer, Refusal> {
-        let &Case {
-            n,
-            m,
-            leader,
-            present,
-            ..
-        } = self.case;
-        let old = (rng.byte(), rng.draw() as usize, rng.draw() as usize);
-        let old_kind = rng.byte();
-        let mut status = GuardedNumber::new(old.0, rng.byte());
-        let mut replica = GuardedNumber::new(old.1, rng.draw() as usize);
-        let mut slot = GuardedNumber::new(old.2, rng.draw() as usize);
-        let mut kind = GuardedNumber::new(old_kind, rng.byte());
-        let answer = proved::step(
-            self.proved.part_mut(),
-            n,
-            m,
-            leader,
-            present,
-            status.number_mut(),
-            replica.number_mut(),
-            slot.number_mut(),
-            kind.number_mut(),
-        );
-        let expected = model::step(&mut self.model, n, m, leader, present);
-        assert_eq!(answer, number(expected), "step");
-        let named = match expected {
-            Err(_) => (old.0, old.1, old.2, old_kind),
-            Ok(StepAnswer::Done) => (0, old.1, old.2, old_kind),
-            Ok(StepAnswer::Waiting(slot)) => (1, old.1, slot, old_kind),
-            Ok(StepAnswer::Store {
-                replica,
-                slot,
-                kind,
-            }) => (2, replica, slot, kind as u8),
-        };
-        status.assert_is(named.0);
-        replica.assert_is(named.1);
-        slot.assert_is(named.2);
-        kind.assert_is(named.3);
-        self.proved.assert_holds(&self.model);
-        seen.refusals[usize::from(answer)] += 1;
-        if let Ok(step) = expected {
-            seen.steps[usize::from(named.0)] += 1;
-            if let StepAnswer::Store { kind, .. } = step {
-                seen.kinds[kind as usize] += 1;
-            }
-        }
-        expected
-    }
-
-    /// A run by both from the beginning; answers the model's.
-    fn run(
-        &mut self,
-        rng: &mut Rng,
-        budget: u64,
-        seen: &mut Recoveries,
-    ) -> Result<RunAnswer, Refusal> {
-        let &Case {
-            n,
-            m,
-            leader,
-            present,
-            ..
-        } = self.case;
-        self.begin_again();
-        let old = (rng.byte(), rng.draw(), rng.draw() as usize);
-        let mut status = GuardedNumber::new(old.0, rng.byte());
-        let mut stores = GuardedNumber::new(old.1, rng.draw());
-        let mut slot = GuardedNumber::new(old.2, rng.draw() as usize);
-        let answer = proved::run(
-            self.proved.part_mut(),
-            n,
-            m,
-            leader,
-            present,
-            budget,
-            status.number_mut(),
-            stores.number_mut(),
-            slot.number_mut(),
-        );
-        let expected = model::run(&mut self.model, n, m, leader, present, budget);
-        assert_eq!(answer, number(expected), "run of budget {budget}");
-        let named = match expected {
-            Err(_) => old,
-            Ok(RunAnswer { end, stores }) => match end {
-                RunEnd::Done => (0, stores, old.2),
-                RunEnd::Waiting(slot) => (1, old.1, slot),
-                RunEnd::Spent => (2, stores, old.2),
-            },
-        };
-        status.assert_is(named.0);
-        stores.assert_is(named.1);
-        slot.assert_is(named.2);
-        self.proved.assert_holds(&self.model);
-        seen.refusals[usize::from(answer)] += 1;
-        if expected.is_ok() {
-            seen.runs[usize::from(named.0)] += 1;
-        }
-        expected
-    }
+    (now.cluster, stores)
 }
 
 /// Steps to the end, a run to the end, and one of a drawn budget.
-fn compare_recovery(rng: &mut Rng, case: Case) -> Recoveries {
-    let planning = Planning {
-        case,
-        slots: 0,
-        rows: 0,
-    };
-    let _shown = Shown(&planning);
-    let case = &planning.case;
-    let mut seen = Recoveries::default();
-    let mut sides = Sides::new(rng, case);
-    let mut stores: u64 = 0;
-    while let Ok(StepAnswer::Store { .. }) = sides.step(rng, &mut seen) {
-        stores += 1;
-    }
-    let stepped = sides.model.clone();
-    if let Ok(whole) = sides.run(rng, u64::MAX, &mut seen) {
-        assert_eq!(whole.stores, stores, "the run counts as many stores");
-        assert_eq!(sides.model, stepped, "the run leaves what the steps left");
-        seen.replicas[case.n] += 1;
-        seen.lengths[[0, 1, 10, 100].iter().filter(|&&few| stores >= few).count() - 1] += 1;
+fn compare_recovery(rng: &mut Rng, case: &Case, tally: &mut Tally) {
+    let (recovered, stores) = compare_steps(rng, case, tally);
+    if let Some((run, status)) = compare_call(rng, &case.run(u64::MAX), tally) {
+        assert!(status == 1 || run.number("stores") == stores);
+        assert!(run.bytes("cluster") == recovered, "a run is not its steps");
+        tally.count("n", case.n);
+        for few in [1, 10, 100] {
+            if stores >= few {
+                tally.count("stores", few as usize);
+            }
+        }
     }
     let some = rng.below(stores as usize + 2) as u64;
     let budget = *rng.pick(&[0, some, some, stores.saturating_sub(1), stores]);
-    let _ = sides.run(rng, budget, &mut seen);
-    seen
+    compare_call(rng, &case.run(budget), tally);
 }
 
 #[test]
 fn recoveries() {
-    let part = |from: u64| {
-        let mut seen = Recoveries::default();
-        for number in (from..RECOVERIES).step_by(THREADS as usize) {
-            let mut rng = case_rng(12, number);
-            let case = recovery_case(&mut rng);
-            seen.add(&compare_recovery(&mut rng, case));
-        }
-        seen
-    };
-    let mut seen = Recoveries::default();
-    thread::scope(|scope| {
-        let parts: Vec<_> = (0..THREADS)
-            .map(|from| scope.spawn(move || part(from)))
-            .collect();
-        for part in parts {
-            seen.add(&part.join().expect("a case failed"));
-        }
+    let tally = each_case(12, RECOVERIES, |rng, tally| {
+        let case = recovery_case(rng);
+        compare_recovery(rng, &case, tally);
     });
-    seen.assert_covers(RECOVERIES);
+    let (hundredth, thousandth) = (RECOVERIES / 100, RECOVERIES / 1000);
+    tally.assert_each("refusal", &[0, 1, 2, 3, 11, 12], thousandth);
+    tally.assert_each("Step", &[0, 1, 2], hundredth);
+    tally.assert_each("Run", &[0, 1, 2], hundredth);
+    tally.assert_each("kind", &[1, 2, 3], hundredth);
+    tally.assert_each("n", &[3, 5, 7], hundredth);
+    tally.assert_each("stores", &[1, 10], hundredth);
+    tally.assert_each("stores", &[100], 100);
 }

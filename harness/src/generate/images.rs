@@ -1,7 +1,5 @@
 //! One image and the calls about it: written as it should be, damaged, spoilt, or not an image.
 
-use std::fmt;
-
 use super::damage::{damage_entry, damage_header, damage_record, flip_one_byte};
 use super::damage::{some_entry, some_epoch, some_payload};
 use super::pieces::{payload_of, some_word};
@@ -24,29 +22,6 @@ pub struct ImageCalls {
     /// What is appended.
     pub epoch: u32,
     pub payload: Vec<u8>,
-}
-
-/// As an expression of Rust.
-impl fmt::Display for ImageCalls {
-    fn fmt(&self, f: &mut fmt::Formatter) -> fmt::Result {
-        let ImageCalls {
-            replica,
-            n,
-            m,
-            image,
-            epochs,
-            verdicts,
-            epoch,
-            payload,
-        } = self;
-        writeln!(f, "ImageCalls {{")?;
-        writeln!(f, "    replica: {replica},\n    n: {n},\n    m: {m},")?;
-        writeln!(f, "    image: b\"{}\".to_vec(),", image.escape_ascii())?;
-        writeln!(f, "    epochs: {epochs},\n    verdicts: {verdicts},")?;
-        writeln!(f, "    epoch: {epoch},")?;
-        writeln!(f, "    payload: b\"{}\".to_vec(),", payload.escape_ascii())?;
-        writeln!(f, "}}")
-    }
 }
 
 /// Calls about an image of m slots, or of what was one.

@@ -2,11 +2,13 @@
 
 pub mod arbitrary;
 pub mod build;
+pub mod calls;
 pub mod damage;
 pub mod example;
 pub mod history;
 pub mod images;
 pub mod noise;
+pub mod piece_calls;
 pub mod pieces;
 pub mod recovery;
 pub mod rng;
@@ -14,6 +16,7 @@ pub mod small;
 
 pub use arbitrary::arbitrary_case;
 pub use build::Cluster;
+pub use calls::one_of_each;
 pub use example::example_input;
 pub use history::{agreed_case, AgreedCase, Committed};
 pub use images::{image_calls, ImageCalls};

@@ -1,0 +1,126 @@
+//! The calls about one image.
+
+use super::{old_bytes, Call, Guarded, Outcome, Rng, Side};
+use crate::compare::Answer;
+use crate::guarded::GuardedNumber;
+
+pub fn make(call: &Call, side: &Side, rng: &mut Rng) -> Option<Outcome> {
+    let outcome = match *call {
+        Call::Format {
+            length,
+            replica,
+            n,
+            m,
+        } => {
+            let mut image = old_bytes(rng, length);
+            let answer = (side.format)(image.part_mut(), replica, n, m);
+            Outcome::new(Answer::Refusal(answer)).with_bytes("image", image)
+        }
+        Call::Append { .. } => append(call, side, rng)?,
+        Call::Read { .. } => read(call, side, rng)?,
+        Call::HasPayload {
+            ref image,
+            replica,
+            n,
+            m,
+            slot,
+        } => {
+            let image = Guarded::new(rng, image);
+            let mut has = GuardedNumber::drawn(rng);
+            let answer = (side.has_payload)(image.part(), replica, n, m, slot, has.number_mut());
+            Outcome::new(Answer::Refusal(answer))
+                .with_bytes("image", image)
+                .with_number("has", has)
+        }
+        Call::Payload { .. } => payload(call, side, rng)?,
+        _ => return None,
+    };
+    Some(outcome)
+}
+
+fn append(call: &Call, side: &Side, rng: &mut Rng) -> Option<Outcome> {
+    let &Call::Append {
+        replica,
+        n,
+        m,
+        epoch,
+        ref payload,
+        ref image,
+    } = call
+    else {
+        return None;
+    };
+    let mut image = Guarded::new(rng, image);
+    let payload = Guarded::new(rng, payload);
+    let mut slot = GuardedNumber::drawn(rng);
+    let answer = (side.append)(
+        image.part_mut(),
+        replica,
+        n,
+        m,
+        epoch,
+        payload.part(),
+        slot.number_mut(),
+    );
+    let outcome = Outcome::new(Answer::Refusal(answer))
+        .with_bytes("image", image)
+        .with_bytes("payload", payload)
+        .with_number("slot", slot);
+    Some(outcome)
+}
+
+fn read(call: &Call, side: &Side, rng: &mut Rng) -> Option<Outcome> {
+    let &Call::Read {
+        replica,
+        n,
+        m,
+        epochs,
+        verdicts,
+        ref image,
+    } = call
+    else {
+        return None;
+    };
+    let image = Guarded::new(rng, image);
+    let old: Vec<u32> = (0..epochs).map(|_| rng.draw() as u32).collect();
+    let mut epochs = Guarded::new(rng, &old);
+    let mut verdicts = old_bytes(rng, verdicts);
+    let mut used = GuardedNumber::drawn(rng);
+    let answer = (side.read)(
+        image.part(),
+        replica,
+        n,
+        m,
+        epochs.part_mut(),
+        verdicts.part_mut(),
+        used.number_mut(),
+    );
+    let outcome = Outcome::new(Answer::Refusal(answer))
+        .with_bytes("image", image)
+        .with_words("epochs", epochs)
+        .with_bytes("verdicts", verdicts)
+        .with_number("used", used);
+    Some(outcome)
+}
+
+fn payload(call: &Call, side: &Side, rng: &mut Rng) -> Option<Outcome> {
+    let &Call::Payload {
+        replica,
+        n,
+        m,
+        slot,
+        ref image,
+    } = call
+    else {
+        return None;
+    };
+    let image = Guarded::new(rng, image);
+    let (mut at, mut size) = (GuardedNumber::drawn(rng), GuardedNumber::drawn(rng));
+    let (lent_at, lent_size) = (at.number_mut(), size.number_mut());
+    let found = (side.payload)(image.part(), replica, n, m, slot, lent_at, lent_size);
+    let outcome = Outcome::new(Answer::Flag(found))
+        .with_bytes("image", image)
+        .with_number("at", at)
+        .with_number("size", size);
+    Some(outcome)
+}

@@ -1,0 +1,153 @@
+//! The calls about a generated image or cluster, and any call at all.
+
+use super::images::{image_calls, ImageCalls};
+use super::piece_calls::{checksum_call, entry_calls, header_calls};
+use super::piece_calls::{read_column_call, record_calls, write_number_call};
+use super::recovery::recovery_case;
+use super::rng::Rng;
+use super::Case;
+use crate::call::Call;
+
+/// One call of each name, in the order of their names.
+pub fn one_of_each(rng: &mut Rng) -> Vec<Call> {
+    let mut calls = vec![
+        checksum_call(rng),
+        write_number_call(rng),
+        read_column_call(rng),
+    ];
+    let [judge, write] = header_calls(rng);
+    calls.extend([write, judge]);
+    let [judge, write, blank] = record_calls(rng);
+    calls.extend([write, blank, judge]);
+    let [judge, write, fresh] = entry_calls(rng);
+    calls.extend([write, fresh, judge]);
+    calls.extend(about_an_image(rng));
+    calls.extend(about_a_cluster(rng));
+    calls
+}
+
+fn about_an_image(rng: &mut Rng) -> [Call; 5] {
+    let m = match rng.below(50) {
+        0 => rng.between(9, 64),
+        1..=10 => rng.between(3, 8),
+        _ => rng.between(1, 2),
+    };
+    let calls = image_calls(rng, m);
+    let slot = match rng.below(10) {
+        0 => *rng.pick(&[0, m + 1, usize::MAX]),
+        _ => rng.between(1, m),
+    };
+    [
+        calls.format(),
+        calls.append(),
+        calls.read(),
+        calls.has_payload(slot),
+        calls.payload(slot),
+    ]
+}
+
+fn about_a_cluster(rng: &mut Rng) -> [Call; 3] {
+    let case = recovery_case(rng);
+    // A lent plan is never as long as a number may be.
+    let right = case.m.min(100);
+    let slots = if rng.chance(3) {
+        *rng.pick(&[0, right.saturating_sub(1), right + 1, 100])
+    } else {
+        right
+    };
+    let budget = match rng.below(4) {
+        0 => u64::MAX,
+        1 => rng.below(3 * 64 * 7) as u64,
+        _ => rng.below(6) as u64,
+    };
+    [case.plan(slots), case.step(), case.run(budget)]
+}
+
+impl ImageCalls {
+    /// A fresh image of the same length.
+    pub fn format(&self) -> Call {
+        Call::Format {
+            length: self.image.len(),
+            replica: self.replica,
+            n: self.n,
+            m: self.m,
+        }
+    }
+
+    pub fn append(&self) -> Call {
+        Call::Append {
+            replica: self.replica,
+            n: self.n,
+            m: self.m,
+            epoch: self.epoch,
+            payload: self.payload.clone(),
+            image: self.image.clone(),
+        }
+    }
+
+    pub fn read(&self) -> Call {
+        Call::Read {
+            replica: self.replica,
+            n: self.n,
+            m: self.m,
+            epochs: self.epochs,
+            verdicts: self.verdicts,
+            image: self.image.clone(),
+        }
+    }
+
+    pub fn has_payload(&self, slot: usize) -> Call {
+        Call::HasPayload {
+            replica: self.replica,
+            n: self.n,
+            m: self.m,
+            slot,
+            image: self.image.clone(),
+        }
+    }
+
+    pub fn payload(&self, slot: usize) -> Call {
+        Call::Payload {
+            replica: self.replica,
+            n: self.n,
+            m: self.m,
+            slot,
+            image: self.image.clone(),
+        }
+    }
+}
+
+impl Case {
+    /// A plan of so many slots is lent.
+    pub fn plan(&self, slots: usize) -> Call {
+        Call::Plan {
+            n: self.n,
+            m: self.m,
+            leader: self.leader,
+            present: self.present,
+            slots,
+            cluster: self.cluster.clone(),
+        }
+    }
+
+    pub fn step(&self) -> Call {
+        Call::Step {
+            n: self.n,
+            m: self.m,
+            leader: self.leader,
+            present: self.present,
+            cluster: self.cluster.clone(),
+        }
+    }
+
+    pub fn run(&self, budget: u64) -> Call {
+        Call::Run {
+            n: self.n,
+            m: self.m,
+            leader: self.leader,
+            present: self.present,
+            budget,
+            cluster: self.cluster.clone(),
+        }
+    }
+}

@@ -1,0 +1,74 @@
+//! Every call in the form in which C and Rust link it, by whoever has written it.
+//!
+//! A number that a call hands out goes to a lent one, which keeps its value otherwise.
+
+// The calls have as many arguments as the exported ones.
+#[allow(clippy::too_many_arguments)]
+mod model;
+
+pub use model::MODEL;
+
+use crate::proved::{self, clusters, images, Column, Entry, Record, Written};
+
+/// One who makes the calls. Those about images and clusters answer 0 or the refusal's number.
+#[derive(Clone, Copy)]
+pub struct Side {
+    pub checksum: fn(&[u8]) -> u32,
+    pub write_number: fn(&mut [u8], u64),
+    pub read_column: fn(&[u8], &mut u64) -> Column,
+    /// The header, the replica, n and m.
+    pub write_header: fn(&mut [u8], usize, usize, usize) -> Written,
+    pub is_header: fn(&[u8], usize, usize, usize) -> bool,
+    /// The record, the epoch and the index.
+    pub write_record: fn(&mut [u8], u32, u32) -> Written,
+    pub write_blank_record: fn(&mut [u8]) -> Written,
+    pub judge_record: fn(&[u8], u32, &mut u32) -> Record,
+    /// The entry, the epoch, the index and the payload.
+    pub write_entry: fn(&mut [u8], u32, u32, &[u8]) -> Written,
+    pub write_fresh_entry: fn(&mut [u8]) -> Written,
+    pub judge_entry: fn(&[u8], u32, &mut u32, &mut usize) -> Entry,
+    /// The image, the replica, n and m, as in every call about one image.
+    pub format: fn(&mut [u8], usize, usize, usize) -> u8,
+    pub append: Append,
+    pub read: Read,
+    pub has_payload: fn(&[u8], usize, usize, usize, usize, &mut u8) -> u8,
+    pub payload: fn(&[u8], usize, usize, usize, usize, &mut usize, &mut usize) -> bool,
+    /// The cluster, n, m, the leader and the present word, as in every call about a cluster.
+    pub plan: Plan,
+    pub step: Step,
+    pub run: Run,
+}
+
+pub type Append = fn(&mut [u8], usize, usize, usize, u32, &[u8], &mut usize) -> u8;
+pub type Read = fn(&[u8], usize, usize, usize, &mut [u32], &mut [u8], &mut usize) -> u8;
+pub type Plan = fn(&[u8], usize, usize, usize, u32, &mut [u8], &mut u8, &mut usize) -> u8;
+pub type Step =
+    fn(&mut [u8], usize, usize, usize, u32, &mut u8, &mut usize, &mut usize, &mut u8) -> u8;
+pub type Run = fn(&mut [u8], usize, usize, usize, u32, u64, &mut u8, &mut u64, &mut usize) -> u8;
+
+pub const PROVED: Side = Side {
+    checksum: proved::checksum,
+    write_number: proved::write_number,
+    read_column: proved::read_column,
+    write_header: proved::write_header,
+    is_header: proved::is_header,
+    write_record: proved::write_record,
+    write_blank_record: proved::write_blank_record,
+    judge_record: proved::judge_record,
+    write_entry: proved::write_entry,
+    write_fresh_entry: proved::write_fresh_entry,
+    judge_entry: proved::judge_entry,
+    format: images::format,
+    append: images::append,
+    read: images::read,
+    has_payload: images::has_payload,
+    payload: images::payload,
+    plan: |cluster, n, m, leader, present, plan, status, number| {
+        // A table of n rows, unless n is refused in any case.
+        let mut rows = [clusters::ReplicaRow::default(); 9];
+        let rows = &mut rows[..n.min(9)];
+        clusters::plan(cluster, n, m, leader, present, plan, rows, status, number)
+    },
+    step: clusters::step,
+    run: clusters::run,
+};

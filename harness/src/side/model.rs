@@ -1,0 +1,275 @@
+//! The model's calls in the exported form.
+
+use super::Side;
+use crate::model::{self, Answer, EntryState, RecordState, Refusal, ReplicaRow, RunAnswer, RunEnd};
+use crate::model::{StepAnswer, ENTRY_LEN, HEADER_LEN, MAX_PAYLOAD, RECORD_LEN};
+use crate::proved::{Column, Entry, Record, Written};
+
+/// The widest column that is read.
+const WIDEST: usize = 19;
+
+pub const MODEL: Side = Side {
+    checksum: model::checksum,
+    write_number,
+    read_column,
+    write_header,
+    is_header,
+    write_record,
+    write_blank_record,
+    judge_record,
+    write_entry,
+    write_fresh_entry,
+    judge_entry,
+    format,
+    append,
+    read,
+    has_payload,
+    payload,
+    plan,
+    step,
+    run,
+};
+
+/// The number's column, or the lowest digits of a number too wide for it. The model writes only
+/// what fits.
+fn write_number(column: &mut [u8], number: u64) {
+    let digits = number.to_string();
+    if digits.len() > column.len() {
+        column.copy_from_slice(&digits.as_bytes()[digits.len() - column.len()..]);
+    } else {
+        model::write_column(column, number);
+    }
+}
+
+/// The model has no column of no bytes; the only number with no more digits than that is 0.
+fn read_column(column: &[u8], value: &mut u64) -> Column {
+    if column.len() > WIDEST {
+        return Column::WrongLength;
+    }
+    let number = if column.is_empty() {
+        Some(0)
+    } else {
+        model::read_column(column)
+    };
+    match number {
+        Some(number) => {
+            *value = number;
+            Column::Number
+        }
+        None if column.iter().all(|&byte| byte == b' ') => Column::Blank,
+        None => Column::Malformed,
+    }
+}
+
+/// The writer's header. The model never meets a number too wide for its column, and would stop.
+fn header_of(replica: usize, n: usize, m: usize) -> [u8; HEADER_LEN] {
+    if replica.max(n).max(m) < 1000 {
+        return model::write_header(replica, n, m);
+    }
+    let mut header = model::write_header(0, 0, 0);
+    write_number(&mut header[7..10], replica as u64);
+    write_number(&mut header[10..13], n as u64);
+    write_number(&mut header[13..16], m as u64);
+    let sum = model::checksum(&header[..16]);
+    write_number(&mut header[16..27], u64::from(sum));
+    header
+}
+
+/// Writes all of these bytes, or none.
+fn write(lent: &mut [u8], bytes: &[u8]) -> Written {
+    if lent.len() != bytes.len() {
+        return Written::WrongLength;
+    }
+    lent.copy_from_slice(bytes);
+    Written::Written
+}
+
+fn write_header(header: &mut [u8], replica: usize, n: usize, m: usize) -> Written {
+    write(header, &header_of(replica, n, m))
+}
+
+fn is_header(header: &[u8], replica: usize, n: usize, m: usize) -> bool {
+    if replica.max(n).max(m) < 1000 {
+        model::header_is_good(header, replica, n, m)
+    } else {
+        header == header_of(replica, n, m)
+    }
+}
+
+fn write_record(record: &mut [u8], epoch: u32, index: u32) -> Written {
+    write(record, &model::write_record(epoch, index as usize))
+}
+
+fn write_blank_record(record: &mut [u8]) -> Written {
+    write(record, &model::BLANK_RECORD)
+}
+
+fn judge_record(record: &[u8], index: u32, epoch: &mut u32) -> Record {
+    if record.len() != RECORD_LEN {
+        return Record::WrongLength;
+    }
+    match model::judge_record(record, index as usize) {
+        RecordState::Good(found) => {
+            *epoch = found;
+            Record::Good
+        }
+        RecordState::Blank => Record::Blank,
+        RecordState::Bad => Record::Bad,
+    }
+}
+
+fn write_entry(entry: &mut [u8], epoch: u32, index: u32, payload: &[u8]) -> Written {
+    if entry.len() != ENTRY_LEN {
+        return Written::WrongLength;
+    }
+    if payload.len() > MAX_PAYLOAD {
+        return Written::PayloadTooLong;
+    }
+    write(entry, &model::write_entry(epoch, index as usize, payload))
+}
+
+fn write_fresh_entry(entry: &mut [u8]) -> Written {
+    write(entry, &[b' '; ENTRY_LEN])
+}
+
+fn judge_entry(entry: &[u8], index: u32, epoch: &mut u32, size: &mut usize) -> Entry {
+    if entry.len() != ENTRY_LEN {
+        return Entry::WrongLength;
+    }
+    match model::judge_entry(entry, index as usize) {
+        EntryState::Intact(found, payload) => {
+            *epoch = found;
+            *size = payload.len();
+            Entry::Intact
+        }
+        EntryState::NotIntact => Entry::Broken,
+    }
+}
+
+/// 0, or the refusal's number. What was found goes where it is handed out.
+fn answer<T>(answer: Result<T, Refusal>, hand_out: impl FnOnce(T)) -> u8 {
+    match answer {
+        Ok(found) => {
+            hand_out(found);
+            0
+        }
+        Err(refusal) => refusal.number(),
+    }
+}
+
+fn format(image: &mut [u8], replica: usize, n: usize, m: usize) -> u8 {
+    answer(model::fresh_image(image, replica, n, m), |()| ())
+}
+
+fn append(
+    image: &mut [u8],
+    replica: usize,
+    n: usize,
+    m: usize,
+    epoch: u32,
+    payload: &[u8],
+    slot: &mut usize,
+) -> u8 {
+    let appended = model::append(image, replica, n, m, epoch, payload);
+    answer(appended, |found| *slot = found)
+}
+
+fn read(
+    image: &[u8],
+    replica: usize,
+    n: usize,
+    m: usize,
+    epochs: &mut [u32],
+    verdicts: &mut [u8],
+    used: &mut usize,
+) -> u8 {
+    let length = model::read(image, replica, n, m, epochs, verdicts);
+    answer(length, |found| *used = found)
+}
+
+fn has_payload(image: &[u8], replica: usize, n: usize, m: usize, slot: usize, has: &mut u8) -> u8 {
+    let found = model::has_payload(image, replica, n, m, slot);
+    answer(found, |found| *has = u8::from(found))
+}
+
+fn payload(
+    image: &[u8],
+    replica: usize,
+    n: usize,
+    m: usize,
+    slot: usize,
+    at: &mut usize,
+    size: &mut usize,
+) -> bool {
+    if model::has_payload(image, replica, n, m, slot) != Ok(true) {
+        return false;
+    }
+    let part = model::payload(image, replica, n, m, slot);
+    *at = part.as_ptr() as usize - image.as_ptr() as usize;
+    *size = part.len();
+    true
+}
+
+fn plan(
+    cluster: &[u8],
+    n: usize,
+    m: usize,
+    leader: usize,
+    present: u32,
+    plan: &mut [u8],
+    status: &mut u8,
+    number: &mut usize,
+) -> u8 {
+    // A table of n rows, unless n is refused in any case.
+    let mut rows = [ReplicaRow::default(); 9];
+    let rows = &mut rows[..n.min(9)];
+    let planned = model::plan(cluster, n, m, leader, present, plan, rows);
+    answer(planned, |found| {
+        (*status, *number) = match found {
+            Answer::Ready(length) => (0, length),
+            Answer::Waiting(slot) => (1, slot),
+        }
+    })
+}
+
+fn step(
+    cluster: &mut [u8],
+    n: usize,
+    m: usize,
+    leader: usize,
+    present: u32,
+    status: &mut u8,
+    replica: &mut usize,
+    slot: &mut usize,
+    kind: &mut u8,
+) -> u8 {
+    let stepped = model::step(cluster, n, m, leader, present);
+    answer(stepped, |found| match found {
+        StepAnswer::Done => *status = 0,
+        StepAnswer::Waiting(waiting) => (*status, *slot) = (1, waiting),
+        StepAnswer::Store {
+            replica: on,
+            slot: at,
+            kind: what,
+        } => (*status, *replica, *slot, *kind) = (2, on, at, what as u8),
+    })
+}
+
+fn run(
+    cluster: &mut [u8],
+    n: usize,
+    m: usize,
+    leader: usize,
+    present: u32,
+    budget: u64,
+    status: &mut u8,
+    stores: &mut u64,
+    slot: &mut usize,
+) -> u8 {
+    let ran = model::run(cluster, n, m, leader, present, budget);
+    answer(ran, |RunAnswer { end, stores: made }| match end {
+        RunEnd::Done => (*status, *stores) = (0, made),
+        RunEnd::Waiting(waiting) => (*status, *slot) = (1, waiting),
+        RunEnd::Spent => (*status, *stores) = (2, made),
+    })
+}
