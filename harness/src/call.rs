@@ -101,12 +101,42 @@ impl Field<'_> {
 impl fmt::Display for Field<'_> {
     fn fmt(&self, f: &mut fmt::Formatter) -> fmt::Result {
         match self {
-            Field::Bytes(bytes) => write!(f, "b\"{}\".to_vec()", bytes.escape_ascii()),
+            Field::Bytes(bytes) => write!(f, "{}", bytes_text(bytes)),
             Field::Word(number) => write!(f, "{number}"),
             Field::Size(number) => write!(f, "{number}"),
             Field::Long(number) => write!(f, "{number}"),
         }
     }
+}
+
+/// So many equal bytes are shown by their number.
+const LONG: usize = 24;
+
+/// Bytes as an expression of Rust.
+fn bytes_text(bytes: &[u8]) -> String {
+    let mut parts = Vec::new();
+    let mut plain = 0;
+    let mut at = 0;
+    while at < bytes.len() {
+        let equal = bytes[at..].iter().take_while(|&&byte| byte == bytes[at]);
+        let end = at + equal.count();
+        if end - at >= LONG {
+            parts.extend(string_text(&bytes[plain..at]));
+            parts.push(format!("&[{}; {}]", bytes[at], end - at));
+            plain = end;
+        }
+        at = end;
+    }
+    if parts.is_empty() {
+        return format!("b\"{}\".to_vec()", bytes.escape_ascii());
+    }
+    parts.extend(string_text(&bytes[plain..]));
+    format!("[{}].concat()", parts.join(", "))
+}
+
+/// A string of bytes as a slice, if there are any.
+fn string_text(bytes: &[u8]) -> Option<String> {
+    (!bytes.is_empty()).then(|| format!("&b\"{}\"[..]", bytes.escape_ascii()))
 }
 
 /// As an expression of Rust.
@@ -117,5 +147,20 @@ impl fmt::Display for Call {
             writeln!(f, "    {name}: {field},")?;
         }
         write!(f, "}}")
+    }
+}
+
+#[cfg(test)]
+mod tests {
+    use super::*;
+
+    #[test]
+    fn equal_bytes_are_shown_by_their_number() {
+        assert_eq!(bytes_text(b""), "b\"\".to_vec()");
+        assert_eq!(bytes_text(b"a\"\n"), "b\"a\\\"\\n\".to_vec()");
+        let long = [&b"ab"[..], &[0; 30], b"c", &[b' '; 24]].concat();
+        let text = "[&b\"ab\"[..], &[0; 30], &b\"c\"[..], &[32; 24]].concat()";
+        assert_eq!(bytes_text(&long), text);
+        assert_eq!(bytes_text(&[7; 24]), "[&[7; 24]].concat()");
     }
 }

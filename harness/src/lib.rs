@@ -7,6 +7,7 @@ pub mod bench;
 pub mod call;
 pub mod code;
 pub mod compare;
+pub mod fuzz;
 pub mod generate;
 pub mod guarded;
 pub mod model;

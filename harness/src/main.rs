@@ -3,21 +3,26 @@
 use std::env;
 use std::fs;
 use std::io::{self, Read, Write};
+use std::panic;
 use std::path::Path;
 use std::process::ExitCode;
+use std::time::Duration;
 
 use harness::bench;
 use harness::code::MODEL;
+use harness::fuzz;
 use harness::generate::example_input;
 use harness::model;
 use harness::property;
 use harness::samples::write_samples;
+use harness::side;
 
 const USAGE: &str = "usage:
   harness report FILE                    print the plan for FILE (- for standard input)
   harness sample                         write the input of the printed example
   harness samples DIR                    write small clusters and their plans into DIR
   harness property --cases N --seed S    check what recovery promises on generated clusters
+  harness fuzz --seconds N --seed S      compare all calls by the model and the proved code
   harness table                          try all damaged sets of four entries on three replicas
   harness bench                          time the proved functions beside the model's";
 
@@ -44,6 +49,7 @@ fn dispatch(arguments: &[String]) -> Result<(), String> {
         "sample" => sample(rest),
         "samples" => all_samples(rest),
         "property" => check_property(rest),
+        "fuzz" => fuzz_calls(rest),
         "table" => table(rest),
         "bench" => time_functions(rest),
         other => Err(format!("unknown subcommand '{other}'\n{USAGE}")),
@@ -108,6 +114,24 @@ fn check_property(arguments: &[String]) -> Result<(), String> {
          images: {cases} cases\nall conclusions hold\n"
     );
     print_bytes(text.as_bytes())
+}
+
+/// Makes generated calls of every kind by both for some time.
+fn fuzz_calls(arguments: &[String]) -> Result<(), String> {
+    let [seconds, seed] = flag_values(arguments, ["--seconds", "--seed"])?;
+    // A side that panics is told once, as a difference.
+    panic::set_hook(Box::new(|_| ()));
+    let fuzzed = fuzz::fuzz(
+        &side::MODEL,
+        &side::PROVED,
+        seed,
+        Duration::from_secs(seconds),
+    );
+    print_bytes(fuzzed.to_string().as_bytes())?;
+    match fuzzed.difference {
+        None => Ok(()),
+        Some(_) => Err("the model and the proved code differ".into()),
+    }
 }
 
 /// Prints the times; they say something only of a release build.

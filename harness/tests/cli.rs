@@ -92,6 +92,30 @@ fn property_prints_a_summary() {
 }
 
 #[test]
+fn fuzz_finds_nothing() {
+    let printed = stdout(&harness(&["fuzz", "--seconds", "1", "--seed", "5"]));
+    assert!(printed.starts_with("seed 5: "), "{printed}");
+    assert!(printed.ends_with("no difference\n"), "{printed}");
+    let swapped = stdout(&harness(&["fuzz", "--seed", "5", "--seconds", "0"]));
+    assert_eq!(swapped, "seed 5: 1 rounds of 19 calls\nno difference\n");
+}
+
+#[test]
+fn wrong_arguments_of_fuzz() {
+    assert_mistake(&["fuzz"], "--seconds is missing");
+    assert_mistake(&["fuzz", "--seconds", "1"], "--seed is missing");
+    assert_mistake(&["fuzz", "--seed"], "--seed needs a value");
+    let word = ["fuzz", "--seconds", "one", "--seed", "1"];
+    assert_mistake(&word, "--seconds needs a number, not 'one'");
+    let negative = ["fuzz", "--seconds", "1", "--seed", "-1"];
+    assert_mistake(&negative, "--seed needs a number, not '-1'");
+    assert_mistake(&["fuzz", "--cases", "1"], "unknown flag '--cases'");
+    assert_mistake(&["fuzz", "1"], "unknown flag '1'");
+    let twice = ["fuzz", "--seconds", "1", "--seconds", "2", "--seed", "1"];
+    assert_mistake(&twice, "--seconds is given twice");
+}
+
+#[test]
 fn unknown_or_missing_subcommands() {
     assert_mistake(&[], "subcommand is missing");
     assert_mistake(&["nonsense"], "unknown subcommand 'nonsense'");

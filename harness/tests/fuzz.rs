@@ -1,0 +1,217 @@
+//! Fuzzing finds a side that is wrong, and makes the call in which it shows small.
+
+use std::time::Duration;
+
+use harness::call::Call;
+use harness::compare::test_text;
+use harness::fuzz::{fuzz, Difference};
+use harness::generate::{one_of_each, Rng};
+use harness::model::{cluster_len, image_len};
+use harness::proved::Written;
+use harness::side::{Side, MODEL, PROVED};
+
+/// What is found of a wrong side, long before the time is over.
+fn found(wrong: Side) -> Difference {
+    let fuzzed = fuzz(&MODEL, &wrong, 1, Duration::from_secs(300));
+    let difference = fuzzed.difference.clone().expect("a difference");
+    let text = fuzzed.to_string();
+    assert!(text.contains("#[test]\nfn "), "{text}");
+    assert!(text.contains(&difference.told), "{text}");
+    assert!(text.ends_with(&test_text(&difference.call, difference.old)));
+    difference
+}
+
+#[test]
+fn a_round_has_every_call() {
+    let calls = one_of_each(&mut Rng::new(1));
+    let names: Vec<&str> = calls.iter().map(Call::name).collect();
+    assert_eq!(names, Call::NAMES);
+}
+
+#[test]
+fn the_proved_code_is_not_wrong() {
+    let fuzzed = fuzz(&MODEL, &PROVED, 7, Duration::from_secs(2));
+    assert!(fuzzed.difference.is_none(), "{fuzzed}");
+    assert!(fuzzed.rounds >= 10, "{fuzzed}");
+    assert!(fuzzed.to_string().ends_with("no difference\n"), "{fuzzed}");
+}
+
+/// The test that is printed stands, as it is, in tests/pasted.rs.
+#[test]
+fn three_payload_bytes_are_written_wrong() {
+    let found = found(Side {
+        write_entry: |entry, epoch, index, payload| {
+            let answer = (PROVED.write_entry)(entry, epoch, index, payload);
+            if answer == Written::Written && payload.len() > 2 {
+                entry[26] ^= 1;
+            }
+            answer
+        },
+        ..PROVED
+    });
+    assert_eq!(found.told, "WriteEntry: entry[26] is 1, not 0");
+    let printed = test_text(&found.call, found.old);
+    let pasted = include_str!("pasted.rs");
+    assert!(pasted.contains(&printed), "{printed}");
+}
+
+#[test]
+fn a_record_without_its_newline_is_taken_for_one() {
+    let found = found(Side {
+        judge_record: |record, index, epoch| {
+            let mut whole = record.to_vec();
+            if let Some(last) = whole.last_mut() {
+                *last = b'\n';
+            }
+            (PROVED.judge_record)(&whole, index, epoch)
+        },
+        ..PROVED
+    });
+    assert!(found.told.ends_with("not Record(Bad)"), "{found:?}");
+    let Call::JudgeRecord { record, .. } = found.call else {
+        panic!("{found:?}");
+    };
+    assert_eq!((record.len(), record[33]), (34, 0));
+}
+
+#[test]
+fn a_long_checksum_is_wrong() {
+    let found = found(Side {
+        checksum: |bytes| (PROVED.checksum)(bytes) ^ u32::from(bytes.len() > 256),
+        ..PROVED
+    });
+    let bytes = vec![0; 257];
+    assert_eq!(found.call, Call::Checksum { bytes });
+}
+
+#[test]
+fn a_number_is_written_too_wide() {
+    let found = found(Side {
+        write_number: |column, number| {
+            (PROVED.write_number)(column, number);
+            if number > 99 {
+                // One byte before the column.
+                unsafe { *column.as_mut_ptr().sub(1) = b'1' };
+            }
+        },
+        ..PROVED
+    });
+    let (width, number) = (0, 100);
+    assert_eq!(found.call, Call::WriteNumber { width, number });
+    assert_eq!(
+        found.told,
+        "WriteNumber: written outside column, at offset -1"
+    );
+}
+
+#[test]
+fn an_ambiguous_slot_is_called_corrupt() {
+    let found = found(Side {
+        read: |image, replica, n, m, epochs, verdicts, used| {
+            let answer = (PROVED.read)(image, replica, n, m, epochs, verdicts, used);
+            for verdict in verdicts.iter_mut().filter(|verdict| **verdict == 4) {
+                *verdict = 3;
+            }
+            answer
+        },
+        ..PROVED
+    });
+    assert_eq!(found.told, "Read: verdicts[0] is 3, not 4");
+    let Call::Read {
+        replica: 1,
+        n: 3,
+        m: 1,
+        epochs: 1,
+        verdicts: 1,
+        image,
+    } = found.call
+    else {
+        panic!("{found:?}");
+    };
+    // Only the header and the record are there.
+    assert_eq!(image.len(), image_len(1));
+    assert!(image[62..].iter().all(|&byte| byte == 0));
+}
+
+#[test]
+fn a_slot_after_the_truncation_is_truncated() {
+    let found = found(Side {
+        plan: |cluster, n, m, leader, present, plan, status, number| {
+            let answer = (PROVED.plan)(cluster, n, m, leader, present, plan, status, number);
+            for byte in plan.iter_mut().filter(|byte| **byte == 5) {
+                *byte = 4;
+            }
+            answer
+        },
+        ..PROVED
+    });
+    assert_eq!(found.told, "Plan: plan[1] is 4, not 5");
+    let Call::Plan { n: 3, m: 2, .. } = found.call else {
+        panic!("{found:?}");
+    };
+}
+
+#[test]
+fn a_run_of_no_budget_makes_a_store() {
+    let found = found(Side {
+        run: |cluster, n, m, leader, present, budget, status, stores, slot| {
+            let budget = budget.max(1);
+            (PROVED.run)(cluster, n, m, leader, present, budget, status, stores, slot)
+        },
+        ..PROVED
+    });
+    let Call::Run {
+        n: 3,
+        m: 1,
+        budget: 0,
+        ref cluster,
+        ..
+    } = found.call
+    else {
+        panic!("{found:?}");
+    };
+    assert_eq!(cluster.len(), cluster_len(3, 1));
+    let written = cluster.iter().filter(|&&byte| byte != 0 && byte != b' ');
+    assert!(written.count() < 150, "{found:?}");
+}
+
+#[test]
+fn a_step_of_seven_replicas_writes_outside() {
+    let found = found(Side {
+        step: |cluster, n, m, leader, present, status, replica, slot, kind| {
+            if n == 7 && m > 2 {
+                unsafe { *cluster.as_mut_ptr().add(cluster.len()) ^= 1 };
+            }
+            (PROVED.step)(cluster, n, m, leader, present, status, replica, slot, kind)
+        },
+        ..PROVED
+    });
+    let expected = Call::Step {
+        n: 7,
+        m: 3,
+        leader: 0,
+        present: 0,
+        cluster: Vec::new(),
+    };
+    assert_eq!(found.call, expected);
+    assert_eq!(found.told, "Step: written outside cluster, at offset 0");
+}
+
+#[test]
+fn a_side_that_panics_is_found() {
+    let found = found(Side {
+        is_header: |header, replica, n, m| {
+            assert!(replica < 1000, "too wide");
+            (PROVED.is_header)(header, replica, n, m)
+        },
+        ..PROVED
+    });
+    let expected = Call::IsHeader {
+        header: Vec::new(),
+        replica: 1000,
+        n: 0,
+        m: 0,
+    };
+    assert_eq!(found.call, expected);
+    assert_eq!(found.told, "IsHeader: a side panics");
+}
