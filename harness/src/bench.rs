@@ -7,8 +7,11 @@ use std::time::{Duration, Instant};
 use crate::code::{self, Code};
 use crate::generate::Cluster;
 use crate::model;
+use crate::progress;
 use crate::proved;
 
+/// How many rows are timed.
+pub const ROWS: usize = 18;
 /// Each side is timed so often, in turns, and its quickest batch counts.
 const ROUNDS: usize = 25;
 /// How long a batch of the model's calls takes, about.
@@ -256,6 +259,7 @@ fn compare<P, M>(
         best[0] = best[0].min(batch(calls, &mut proved));
         best[1] = best[1].min(batch(calls, &mut model));
     }
+    progress::step();
     let [proved, model] = best.map(|time| time.as_nanos() as f64 / calls as f64);
     Row {
         name,

@@ -10,6 +10,7 @@ use std::time::{Duration, Instant};
 use crate::call::Call;
 use crate::compare::{compare, test_text};
 use crate::generate::one_of_each;
+use crate::progress;
 use crate::property::case_rng;
 use crate::side::Side;
 
@@ -50,6 +51,7 @@ pub fn fuzz(expected: &Side, tried: &Side, seed: u64, time: Duration) -> Fuzzed 
                 };
             }
         }
+        progress::step();
         if start.elapsed() >= time {
             return Fuzzed {
                 seed,

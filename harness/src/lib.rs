@@ -11,6 +11,7 @@ pub mod fuzz;
 pub mod generate;
 pub mod guarded;
 pub mod model;
+pub mod progress;
 pub mod property;
 pub mod proved;
 pub mod samples;

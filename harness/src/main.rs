@@ -13,6 +13,7 @@ use harness::code::MODEL;
 use harness::fuzz;
 use harness::generate::example_input;
 use harness::model;
+use harness::progress;
 use harness::property;
 use harness::samples::write_samples;
 use harness::side;
@@ -105,9 +106,12 @@ fn print_bytes(bytes: &[u8]) -> Result<(), String> {
 /// Plays generated cases of every kind.
 fn check_property(arguments: &[String]) -> Result<(), String> {
     let [cases, seed] = flag_values(arguments, ["--cases", "--seed"])?;
+    let all = cases.saturating_mul(3);
+    let shown = progress::show(move |done, _| format!("property: {done} of {all} cases"));
     let agreed = property::check_agreed(MODEL, seed, cases)?;
     let arbitrary = property::check_arbitrary(MODEL, seed, cases)?;
     property::check_images(seed, cases)?;
+    drop(shown);
     let text = format!(
         "agreed clusters: {cases} cases\n{agreed}\n\
          arbitrary clusters: {cases} cases\n{arbitrary}\n\
@@ -121,12 +125,17 @@ fn fuzz_calls(arguments: &[String]) -> Result<(), String> {
     let [seconds, seed] = flag_values(arguments, ["--seconds", "--seed"])?;
     // A side that panics is told once, as a difference.
     panic::set_hook(Box::new(|_| ()));
+    let shown = progress::show(move |done, time| {
+        let time = time.as_secs();
+        format!("fuzz: {done} rounds in {time} of {seconds} s")
+    });
     let fuzzed = fuzz::fuzz(
         &side::MODEL,
         &side::PROVED,
         seed,
         Duration::from_secs(seconds),
     );
+    drop(shown);
     print_bytes(fuzzed.to_string().as_bytes())?;
     match fuzzed.difference {
         None => Ok(()),
@@ -137,7 +146,10 @@ fn fuzz_calls(arguments: &[String]) -> Result<(), String> {
 /// Prints the times; they say something only of a release build.
 fn time_functions(arguments: &[String]) -> Result<(), String> {
     no_arguments("bench", arguments)?;
-    print_bytes(bench::table().to_string().as_bytes())
+    let shown = progress::show(|done, _| format!("bench: {done} of {} rows", bench::ROWS));
+    let table = bench::table();
+    drop(shown);
+    print_bytes(table.to_string().as_bytes())
 }
 
 fn no_arguments(subcommand: &str, arguments: &[String]) -> Result<(), String> {
@@ -152,7 +164,10 @@ fn no_arguments(subcommand: &str, arguments: &[String]) -> Result<(), String> {
 
 fn table(arguments: &[String]) -> Result<(), String> {
     no_arguments("table", arguments)?;
+    let all = property::table::SETS;
+    let shown = progress::show(move |done, _| format!("table: {done} of {all} sets"));
     let table = property::table::table(MODEL.run)?;
+    drop(shown);
     let text = format!(
         "recovered {}\nwaiting {}\nharmed {}\n",
         table.recovered, table.waiting, table.harmed

@@ -115,6 +115,24 @@ fn wrong_arguments_of_fuzz() {
     assert_mistake(&twice, "--seconds is given twice");
 }
 
+/// Progress is for a terminal: in a pipe nothing but the result is printed, however long it takes.
+#[test]
+fn long_commands_are_quiet_in_a_pipe() {
+    let long: [&[&str]; 3] = [
+        &["property", "--cases", "600", "--seed", "1"],
+        &["fuzz", "--seconds", "1", "--seed", "1"],
+        &["table"],
+    ];
+    for arguments in long {
+        let output = harness(arguments);
+        assert!(output.status.success(), "{output:?}");
+        assert!(output.stderr.is_empty(), "{arguments:?}: {output:?}");
+        let printed = String::from_utf8(output.stdout).unwrap();
+        let control = |letter: char| letter.is_control() && letter != '\n';
+        assert!(!printed.contains(control), "{arguments:?}: {printed}");
+    }
+}
+
 #[test]
 fn unknown_or_missing_subcommands() {
     assert_mistake(&[], "subcommand is missing");

@@ -11,6 +11,7 @@ pub use coverage::Coverage;
 
 use crate::code::Code;
 use crate::generate::{agreed_case, arbitrary_case, noise_cluster, small_case, Rng};
+use crate::progress;
 use claims::Start;
 use std::ops::Range;
 
@@ -28,6 +29,7 @@ pub fn check_agreed(code: Code, seed: u64, cases: u64) -> Result<Coverage, Strin
             .check_first(&mut coverage)
             .and_then(|()| play::play(&mut rng, &start, code, CALLS, &mut coverage))
             .map_err(|what| format!("agreed case {number} of seed {seed}: {what}"))?;
+        progress::step();
     }
     Ok(coverage)
 }
@@ -47,6 +49,7 @@ pub fn check_arbitrary(code: Code, seed: u64, cases: u64) -> Result<Coverage, St
             .check_first(&mut coverage)
             .and_then(|()| play::play(&mut rng, &start, code, CALLS, &mut coverage))
             .map_err(|what| format!("arbitrary case {number} of seed {seed}: {what}"))?;
+        progress::step();
     }
     Ok(coverage)
 }
@@ -72,6 +75,7 @@ pub fn check_images(seed: u64, cases: u64) -> Result<images::ImageCoverage, Stri
         let mut rng = case_rng(seed, number);
         images::check_image(&mut rng, &mut coverage)
             .map_err(|what| format!("image case {number} of seed {seed}: {what}"))?;
+        progress::step();
     }
     Ok(coverage)
 }

@@ -4,11 +4,12 @@ use super::ensure;
 use crate::code::Run;
 use crate::generate::Cluster;
 use crate::model::RunEnd;
+use crate::progress;
 
 const REPLICAS: usize = 3;
 const SLOTS: usize = 4;
 /// How many sets of damaged entries there are.
-const SETS: u32 = 1 << (REPLICAS * SLOTS);
+pub const SETS: u32 = 1 << (REPLICAS * SLOTS);
 
 /// How the combinations end.
 #[derive(Clone, Copy, Debug, Default, PartialEq, Eq)]
@@ -55,6 +56,7 @@ pub fn table_of(run: Run, damage: impl Fn(&mut Cluster, usize, usize)) -> Result
             RunEnd::Waiting(_) if cluster == start => table.waiting += 1,
             _ => table.harmed += 1,
         }
+        progress::step();
     }
     Ok(table)
 }
