@@ -146,8 +146,8 @@ fn fuzz_calls(arguments: &[String]) -> Result<(), String> {
 /// Prints the times; they say something only of a release build.
 fn time_functions(arguments: &[String]) -> Result<(), String> {
     no_arguments("bench", arguments)?;
-    let shown = progress::show(|done, _| format!("bench: {done} of {} rows", bench::ROWS));
-    let table = bench::table();
+    let shown = progress::show(|done, _| format!("bench: {done} of {} calls", bench::TIMED));
+    let table = bench::bench();
     drop(shown);
     print_bytes(table.to_string().as_bytes())
 }
