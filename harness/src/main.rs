@@ -136,6 +136,7 @@ fn fuzz_calls(arguments: &[String]) -> Result<(), String> {
         Duration::from_secs(seconds),
     );
     drop(shown);
+    drop(panic::take_hook());
     print_bytes(fuzzed.to_string().as_bytes())?;
     match fuzzed.difference {
         None => Ok(()),

@@ -316,6 +316,7 @@ fn compare_recovery(rng: &mut Rng, case: &Case, tally: &mut Tally) {
         assert!(status == 1 || run.number("stores") == stores);
         assert!(run.bytes("cluster") == recovered, "a run is not its steps");
         tally.count("n", case.n);
+        tally.count("m", case.m);
         for few in [1, 10, 100] {
             if stores >= few {
                 tally.count("stores", few as usize);
@@ -339,6 +340,9 @@ fn recoveries() {
     tally.assert_each("Run", &[0, 1, 2], hundredth);
     tally.assert_each("kind", &[1, 2, 3], hundredth);
     tally.assert_each("n", &[3, 5, 7], hundredth);
+    let every_slot_count: Vec<usize> = (1..=MAX_SLOTS).collect();
+    tally.assert_each("m", &every_slot_count, 1);
+    tally.assert_each("m", &[MAX_SLOTS], 20);
     tally.assert_each("stores", &[1, 10], hundredth);
     tally.assert_each("stores", &[100], 100);
 }
