@@ -122,7 +122,7 @@ fn bytes_text(bytes: &[u8]) -> String {
         let end = at + equal.count();
         if end - at >= LONG {
             parts.extend(string_text(&bytes[plain..at]));
-            parts.push(format!("&[{}; {}]", bytes[at], end - at));
+            parts.push(format!("&[{}u8; {}][..]", bytes[at], end - at));
             plain = end;
         }
         at = end;
@@ -159,8 +159,8 @@ mod tests {
         assert_eq!(bytes_text(b""), "b\"\".to_vec()");
         assert_eq!(bytes_text(b"a\"\n"), "b\"a\\\"\\n\".to_vec()");
         let long = [&b"ab"[..], &[0; 30], b"c", &[b' '; 24]].concat();
-        let text = "[&b\"ab\"[..], &[0; 30], &b\"c\"[..], &[32; 24]].concat()";
+        let text = "[&b\"ab\"[..], &[0u8; 30][..], &b\"c\"[..], &[32u8; 24][..]].concat()";
         assert_eq!(bytes_text(&long), text);
-        assert_eq!(bytes_text(&[7; 24]), "[&[7; 24]].concat()");
+        assert_eq!(bytes_text(&[7; 24]), "[&[7u8; 24][..]].concat()");
     }
 }

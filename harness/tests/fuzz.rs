@@ -36,7 +36,12 @@ fn the_proved_code_is_not_wrong() {
     assert!(fuzzed.to_string().ends_with("no difference\n"), "{fuzzed}");
 }
 
-/// The test that is printed stands, as it is, in tests/pasted.rs.
+/// The test that is printed stands, as it is, in tests/pasted.rs, and so it compiles.
+fn assert_pasted(found: &Difference) {
+    let printed = test_text(&found.call, found.old);
+    assert!(include_str!("pasted.rs").contains(&printed), "{printed}");
+}
+
 #[test]
 fn three_payload_bytes_are_written_wrong() {
     let found = found(Side {
@@ -50,9 +55,7 @@ fn three_payload_bytes_are_written_wrong() {
         ..PROVED
     });
     assert_eq!(found.told, "WriteEntry: entry[26] is 1, not 0");
-    let printed = test_text(&found.call, found.old);
-    let pasted = include_str!("pasted.rs");
-    assert!(pasted.contains(&printed), "{printed}");
+    assert_pasted(&found);
 }
 
 #[test]
@@ -82,6 +85,7 @@ fn a_long_checksum_is_wrong() {
     });
     let bytes = vec![0; 257];
     assert_eq!(found.call, Call::Checksum { bytes });
+    assert_pasted(&found);
 }
 
 #[test]
