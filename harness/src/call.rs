@@ -70,8 +70,16 @@ calls! {
     Read { replica: usize, n: usize, m: usize, epochs: usize, verdicts: usize, image: Vec<u8> }
     HasPayload { replica: usize, n: usize, m: usize, slot: usize, image: Vec<u8> }
     Payload { replica: usize, n: usize, m: usize, slot: usize, image: Vec<u8> }
-    /// The plan that is lent has so many slots.
-    Plan { n: usize, m: usize, leader: usize, present: u32, slots: usize, cluster: Vec<u8> }
+    /// The plan that is lent has so many slots, and the table so many rows.
+    Plan {
+        n: usize,
+        m: usize,
+        leader: usize,
+        present: u32,
+        slots: usize,
+        rows: usize,
+        cluster: Vec<u8>,
+    }
     Step { n: usize, m: usize, leader: usize, present: u32, cluster: Vec<u8> }
     Run { n: usize, m: usize, leader: usize, present: u32, budget: u64, cluster: Vec<u8> }
 }

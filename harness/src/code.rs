@@ -67,11 +67,7 @@ fn proved_plan(
         &mut number,
     );
     for (row, filled) in rows.iter_mut().zip(table) {
-        *row = ReplicaRow {
-            readable: filled.readable,
-            length: filled.length,
-            last_epoch: filled.last_epoch,
-        };
+        *row = filled.into();
     }
     accepted(refusal)?;
     Ok(match status {

@@ -8,7 +8,8 @@ mod model;
 
 pub use model::MODEL;
 
-use crate::proved::{self, clusters, images, Column, Entry, Record, Written};
+use crate::proved::clusters::{self, ReplicaRow};
+use crate::proved::{self, images, Column, Entry, Record, Written};
 
 /// One who makes the calls. Those about images and clusters answer 0 or the refusal's number.
 #[derive(Clone, Copy)]
@@ -41,7 +42,8 @@ pub struct Side {
 
 pub type Append = fn(&mut [u8], usize, usize, usize, u32, &[u8], &mut usize) -> u8;
 pub type Read = fn(&[u8], usize, usize, usize, &mut [u32], &mut [u8], &mut usize) -> u8;
-pub type Plan = fn(&[u8], usize, usize, usize, u32, &mut [u8], &mut u8, &mut usize) -> u8;
+pub type Plan =
+    fn(&[u8], usize, usize, usize, u32, &mut [u8], &mut [ReplicaRow], &mut u8, &mut usize) -> u8;
 pub type Step =
     fn(&mut [u8], usize, usize, usize, u32, &mut u8, &mut usize, &mut usize, &mut u8) -> u8;
 pub type Run = fn(&mut [u8], usize, usize, usize, u32, u64, &mut u8, &mut u64, &mut usize) -> u8;
@@ -63,12 +65,7 @@ pub const PROVED: Side = Side {
     read: images::read,
     has_payload: images::has_payload,
     payload: images::payload,
-    plan: |cluster, n, m, leader, present, plan, status, number| {
-        // A table of n rows, unless n is refused in any case.
-        let mut rows = [clusters::ReplicaRow::default(); 9];
-        let rows = &mut rows[..n.min(9)];
-        clusters::plan(cluster, n, m, leader, present, plan, rows, status, number)
-    },
+    plan: clusters::plan,
     step: clusters::step,
     run: clusters::run,
 };

@@ -140,19 +140,104 @@ fn an_ambiguous_slot_is_called_corrupt() {
 #[test]
 fn a_slot_after_the_truncation_is_truncated() {
     let found = found(Side {
-        plan: |cluster, n, m, leader, present, plan, status, number| {
-            let answer = (PROVED.plan)(cluster, n, m, leader, present, plan, status, number);
-            for byte in plan.iter_mut().filter(|byte| **byte == 5) {
-                *byte = 4;
+        plan: |cluster, n, m, leader, present, plan, rows, status, number| {
+            let answer = (PROVED.plan)(cluster, n, m, leader, present, plan, rows, status, number);
+            // The old contents of a refused plan may be any.
+            if answer == 0 {
+                for byte in plan.iter_mut().filter(|byte| **byte == 5) {
+                    *byte = 4;
+                }
             }
             answer
         },
         ..PROVED
     });
     assert_eq!(found.told, "Plan: plan[1] is 4, not 5");
-    let Call::Plan { n: 3, m: 2, .. } = found.call else {
+    let Call::Plan {
+        n: 3,
+        m: 2,
+        rows: 3,
+        ..
+    } = found.call
+    else {
         panic!("{found:?}");
     };
+}
+
+/// Of the third of five replicas or more, so that it takes a table of five rows.
+#[test]
+fn a_row_has_another_epoch() {
+    let found = found(Side {
+        plan: |cluster, n, m, leader, present, plan, rows, status, number| {
+            let answer = (PROVED.plan)(cluster, n, m, leader, present, plan, rows, status, number);
+            if answer == 0 && n > 3 && rows[2].length > 1 {
+                rows[2].last_epoch ^= 1;
+            }
+            answer
+        },
+        ..PROVED
+    });
+    assert!(found.told.starts_with("Plan: rows[2] is "), "{found:?}");
+    let Call::Plan {
+        n: 5,
+        m: 2,
+        slots: 2,
+        rows: 5,
+        ref cluster,
+        ..
+    } = found.call
+    else {
+        panic!("{found:?}");
+    };
+    assert_eq!(cluster.len(), cluster_len(5, 2));
+}
+
+#[test]
+fn a_refused_plan_changes_a_row() {
+    let found = found(Side {
+        plan: |cluster, n, m, leader, present, plan, rows, status, number| {
+            let answer = (PROVED.plan)(cluster, n, m, leader, present, plan, rows, status, number);
+            if let (13, Some(row)) = (answer, rows.first_mut()) {
+                row.readable = 2;
+            }
+            answer
+        },
+        ..PROVED
+    });
+    assert!(found.told.starts_with("Plan: rows[0] is "), "{found:?}");
+    let Call::Plan {
+        n: 3,
+        m: 1,
+        rows: 1,
+        ..
+    } = found.call
+    else {
+        panic!("{found:?}");
+    };
+}
+
+#[test]
+fn a_row_behind_the_table_is_written() {
+    let found = found(Side {
+        plan: |cluster, n, m, leader, present, plan, rows, status, number| {
+            if rows.len() == 7 {
+                unsafe { (*rows.as_mut_ptr().add(7)).length ^= 1 };
+            }
+            (PROVED.plan)(cluster, n, m, leader, present, plan, rows, status, number)
+        },
+        ..PROVED
+    });
+    let expected = Call::Plan {
+        n: 0,
+        m: 0,
+        leader: 0,
+        present: 0,
+        slots: 0,
+        rows: 7,
+        cluster: Vec::new(),
+    };
+    assert_eq!(found.call, expected);
+    assert_eq!(found.told, "Plan: written outside rows, at offset 7");
 }
 
 #[test]

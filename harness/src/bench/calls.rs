@@ -5,6 +5,7 @@ use std::hint::black_box;
 use super::timing::{time, Times};
 use crate::generate::Cluster;
 use crate::model::{entry_offset, image_offset, record_offset, write_entry, ENTRY_LEN, RECORD_LEN};
+use crate::proved::clusters::ReplicaRow;
 
 const EPOCH: u32 = 7;
 
@@ -69,13 +70,21 @@ fn damaged_cluster(n: usize, m: usize, size: usize, from: usize, entries: usize)
 pub fn plan(n: usize, m: usize, size: usize) -> Times {
     let cluster = damaged_cluster(n, m, size, 1, m);
     let present = (1 << n) - 1;
-    let (mut plan, mut status, mut number) = (vec![0; m], 9, 0);
+    let (mut plan, mut rows) = (vec![0; m], vec![ReplicaRow::default(); n]);
+    let (mut status, mut number) = (9, 0);
     let times = time(|side| {
         let bytes = black_box(&cluster.bytes);
+        let (plan, rows) = (&mut plan, &mut rows);
         let (status, number) = (&mut status, &mut number);
-        (side.plan)(bytes, n, m, 1, present, &mut plan, status, number)
+        (side.plan)(bytes, n, m, 1, present, plan, rows, status, number)
     });
     assert_eq!((status, number, plan), (0, m, vec![12; m]));
+    let row = ReplicaRow {
+        readable: 1,
+        length: m as u32,
+        last_epoch: EPOCH,
+    };
+    assert_eq!(rows, vec![row; n]);
     times
 }
 

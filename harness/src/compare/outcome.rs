@@ -1,8 +1,9 @@
 //! What a call answered, and how it left everything that it was lent.
 
-use std::fmt::{Debug, Display};
+use std::fmt::Debug;
 
 use crate::guarded::{Guarded, GuardedNumber, Number};
+use crate::proved::clusters::ReplicaRow;
 use crate::proved::{Column, Entry, Record, Written};
 
 /// What a call answers.
@@ -40,6 +41,7 @@ impl Answer {
 enum Left {
     Bytes(Guarded),
     Words(Guarded<u32>),
+    Rows(Guarded<ReplicaRow>),
     Number(u64),
 }
 
@@ -72,6 +74,12 @@ impl Outcome {
         self
     }
 
+    pub fn with_rows(mut self, name: &'static str, rows: Guarded<ReplicaRow>) -> Outcome {
+        self.check_guards(name, rows.broken_guard());
+        self.left.push((name, Left::Rows(rows)));
+        self
+    }
+
     pub fn with_number<T: Number>(
         mut self,
         name: &'static str,
@@ -93,6 +101,14 @@ impl Outcome {
         match self.left(name) {
             Left::Bytes(bytes) => bytes.part(),
             _ => panic!("{name} is not bytes"),
+        }
+    }
+
+    /// The lent table of that name.
+    pub fn rows(&self, name: &str) -> &[ReplicaRow] {
+        match self.left(name) {
+            Left::Rows(rows) => rows.part(),
+            _ => panic!("{name} is not a table"),
         }
     }
 
@@ -133,6 +149,9 @@ fn difference(name: &str, found: &Left, expected: &Left) -> Option<String> {
         (Left::Words(found), Left::Words(expected)) => {
             first_difference(name, found.part(), expected.part())
         }
+        (Left::Rows(found), Left::Rows(expected)) => {
+            first_difference(name, found.part(), expected.part())
+        }
         (Left::Number(found), Left::Number(expected)) => {
             (found != expected).then(|| format!("{name} is {found}, not {expected}"))
         }
@@ -141,7 +160,7 @@ fn difference(name: &str, found: &Left, expected: &Left) -> Option<String> {
 }
 
 /// Equal slices are compared as a whole.
-fn first_difference<T: PartialEq + Display>(
+fn first_difference<T: PartialEq + Debug>(
     name: &str,
     found: &[T],
     expected: &[T],
@@ -152,5 +171,5 @@ fn first_difference<T: PartialEq + Display>(
     let mut pairs = found.iter().zip(expected);
     let at = pairs.position(|(found, expected)| found != expected)?;
     let (found, expected) = (&found[at], &expected[at]);
-    Some(format!("{name}[{at}] is {found}, not {expected}"))
+    Some(format!("{name}[{at}] is {found:?}, not {expected:?}"))
 }

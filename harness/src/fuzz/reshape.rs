@@ -212,6 +212,9 @@ pub fn without_replicas(call: &mut Call, out: Range<usize>) {
         bytes.extend(&image[HEADER_LEN..]);
     }
     *images.bytes = bytes;
+    if number(&images.numbers, "rows") == Some(n) {
+        images.set("rows", n - 2);
+    }
     images.set("n", n - 2);
     let number_of = |name| number(&images.numbers, name).unwrap_or(0);
     let below = |replica: usize| usize::from(low < replica) + usize::from(high < replica);

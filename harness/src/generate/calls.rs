@@ -7,6 +7,7 @@ use super::recovery::recovery_case;
 use super::rng::Rng;
 use super::Case;
 use crate::call::Call;
+use crate::model::MAX_SLOTS;
 
 /// One call of each name, in the order of their names.
 pub fn one_of_each(rng: &mut Rng) -> Vec<Call> {
@@ -48,19 +49,30 @@ fn about_an_image(rng: &mut Rng) -> [Call; 5] {
 
 fn about_a_cluster(rng: &mut Rng) -> [Call; 3] {
     let case = recovery_case(rng);
-    // A lent plan is never as long as a number may be.
-    let right = case.m.min(100);
-    let slots = if rng.chance(3) {
-        *rng.pick(&[0, right.saturating_sub(1), right + 1, 100])
-    } else {
-        right
-    };
+    let plan = plan_call(rng, &case);
     let budget = match rng.below(4) {
         0 => u64::MAX,
         1 => rng.below(3 * 64 * 7) as u64,
         _ => rng.below(6) as u64,
     };
-    [case.plan(slots), case.step(), case.run(budget)]
+    [plan, case.step(), case.run(budget)]
+}
+
+/// A plan and a table are lent, each of the wrong length now and then.
+pub fn plan_call(rng: &mut Rng, case: &Case) -> Call {
+    // Neither is ever as long as a number may be.
+    let slots = some_length(rng, case.m.min(100), MAX_SLOTS);
+    let rows = some_length(rng, case.n.min(8), 7);
+    case.plan(slots, rows)
+}
+
+/// Mostly the right length, else one beside it, none, the most that there may be, or more.
+fn some_length(rng: &mut Rng, right: usize, most: usize) -> usize {
+    if rng.chance(3) {
+        *rng.pick(&[0, right.saturating_sub(1), right + 1, most, 2 * most])
+    } else {
+        right
+    }
 }
 
 impl ImageCalls {
@@ -118,14 +130,15 @@ impl ImageCalls {
 }
 
 impl Case {
-    /// A plan of so many slots is lent.
-    pub fn plan(&self, slots: usize) -> Call {
+    /// A plan of so many slots and a table of so many rows are lent.
+    pub fn plan(&self, slots: usize, rows: usize) -> Call {
         Call::Plan {
             n: self.n,
             m: self.m,
             leader: self.leader,
             present: self.present,
             slots,
+            rows,
             cluster: self.cluster.clone(),
         }
     }

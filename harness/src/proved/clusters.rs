@@ -24,6 +24,17 @@ impl From<model::ReplicaRow> for ReplicaRow {
     }
 }
 
+/// And back.
+impl From<ReplicaRow> for model::ReplicaRow {
+    fn from(row: ReplicaRow) -> model::ReplicaRow {
+        model::ReplicaRow {
+            readable: row.readable,
+            length: row.length,
+            last_epoch: row.last_epoch,
+        }
+    }
+}
+
 /// A row that is the same number throughout, for guards.
 impl From<u8> for ReplicaRow {
     fn from(byte: u8) -> ReplicaRow {

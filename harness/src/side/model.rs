@@ -1,8 +1,9 @@
 //! The model's calls in the exported form.
 
 use super::Side;
-use crate::model::{self, Answer, EntryState, RecordState, Refusal, ReplicaRow, RunAnswer, RunEnd};
+use crate::model::{self, Answer, EntryState, RecordState, Refusal, RunAnswer, RunEnd};
 use crate::model::{StepAnswer, ENTRY_LEN, HEADER_LEN, MAX_PAYLOAD, RECORD_LEN};
+use crate::proved::clusters::ReplicaRow;
 use crate::proved::{Column, Entry, Record, Written};
 
 /// The widest column that is read.
@@ -217,13 +218,15 @@ fn plan(
     leader: usize,
     present: u32,
     plan: &mut [u8],
+    rows: &mut [ReplicaRow],
     status: &mut u8,
     number: &mut usize,
 ) -> u8 {
-    // A table of n rows, unless n is refused in any case.
-    let mut rows = [ReplicaRow::default(); 9];
-    let rows = &mut rows[..n.min(9)];
-    let planned = model::plan(cluster, n, m, leader, present, plan, rows);
+    let mut table: Vec<model::ReplicaRow> = rows.iter().map(|&row| row.into()).collect();
+    let planned = model::plan(cluster, n, m, leader, present, plan, &mut table);
+    for (row, filled) in rows.iter_mut().zip(table) {
+        *row = filled.into();
+    }
     answer(planned, |found| {
         (*status, *number) = match found {
             Answer::Ready(length) => (0, length),

@@ -3,6 +3,7 @@
 use super::{old_bytes, Call, Guarded, Outcome, Rng, Side};
 use crate::compare::Answer;
 use crate::guarded::GuardedNumber;
+use crate::proved::clusters::ReplicaRow;
 
 pub fn make(call: &Call, side: &Side, rng: &mut Rng) -> Option<Outcome> {
     match call {
@@ -13,6 +14,16 @@ pub fn make(call: &Call, side: &Side, rng: &mut Rng) -> Option<Outcome> {
     }
 }
 
+/// So many lent rows, of any old contents.
+fn old_rows(rng: &mut Rng, length: usize) -> Guarded<ReplicaRow> {
+    let mut old = vec![ReplicaRow::default(); length];
+    for row in &mut old {
+        row.readable = rng.byte();
+        (row.length, row.last_epoch) = (rng.draw() as u32, rng.draw() as u32);
+    }
+    Guarded::new(rng, &old)
+}
+
 fn plan(call: &Call, side: &Side, rng: &mut Rng) -> Option<Outcome> {
     let &Call::Plan {
         n,
@@ -20,6 +31,7 @@ fn plan(call: &Call, side: &Side, rng: &mut Rng) -> Option<Outcome> {
         leader,
         present,
         slots,
+        rows,
         ref cluster,
     } = call
     else {
@@ -27,6 +39,7 @@ fn plan(call: &Call, side: &Side, rng: &mut Rng) -> Option<Outcome> {
     };
     let cluster = Guarded::new(rng, cluster);
     let mut plan = old_bytes(rng, slots);
+    let mut rows = old_rows(rng, rows);
     let (mut status, mut number) = (GuardedNumber::drawn(rng), GuardedNumber::drawn(rng));
     let answer = (side.plan)(
         cluster.part(),
@@ -35,12 +48,14 @@ fn plan(call: &Call, side: &Side, rng: &mut Rng) -> Option<Outcome> {
         leader,
         present,
         plan.part_mut(),
+        rows.part_mut(),
         status.number_mut(),
         number.number_mut(),
     );
     let outcome = Outcome::new(Answer::Refusal(answer))
         .with_bytes("cluster", cluster)
         .with_bytes("plan", plan)
+        .with_rows("rows", rows)
         .with_number("status", status)
         .with_number("number", number);
     Some(outcome)
