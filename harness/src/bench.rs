@@ -153,7 +153,7 @@ impl Bench {
         writeln!(
             f,
             "A run of n = 7, m = 64, 200 payload bytes, by how many entries of other replicas\n\
-             are damaged; each is one store, and the plan is worked out anew before each."
+             are damaged; each is one store."
         )
     }
 }
