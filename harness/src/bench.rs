@@ -95,11 +95,11 @@ struct Columns(Times);
 impl fmt::Display for Columns {
     fn fmt(&self, f: &mut fmt::Formatter) -> fmt::Result {
         let Times { proved, model } = self.0;
-        write!(f, "{proved:>11}{model:>11}{:>7.2}", self.0.ratio())
+        write!(f, "{proved:>11}{model:>11}{:>9.2}", self.0.ratio())
     }
 }
 
-const HEADINGS: &str = "     proved      model  ratio";
+const HEADINGS: &str = "     proved      model    ratio";
 
 const MEANING: &str = "\
 Times are medians, of one call; ratio is the model's time by the proved function's.
@@ -114,7 +114,7 @@ recovery   a run that makes all its stores, m of them
 impl fmt::Display for Bench {
     fn fmt(&self, f: &mut fmt::Formatter) -> fmt::Result {
         let [few, most] = SIZES.map(|size| format!("{size} payload bytes"));
-        writeln!(f, "{:24}{few:>29} |{most:>29}", "")?;
+        writeln!(f, "{:24}{few:>31} |{most:>31}", "")?;
         writeln!(f, "{:16}{:>4}{:>4}{HEADINGS} |{HEADINGS}", "", "n", "m")?;
         for Row { name, n, m, times } in &self.rows {
             let [n, m] = [n, m].map(|count| count.map_or("".into(), |count| count.to_string()));
@@ -130,7 +130,7 @@ impl fmt::Display for Bench {
 impl Bench {
     fn fmt_by_slots(&self, f: &mut fmt::Formatter) -> fmt::Result {
         let (read, plan) = ("read, for each slot", "plan of n = 7, for each slot");
-        writeln!(f, "{:8}{read:>29} |{plan:>29}", "")?;
+        writeln!(f, "{:8}{read:>31} |{plan:>31}", "")?;
         writeln!(f, "{:>8}{HEADINGS} |{HEADINGS}", "m")?;
         for (m, read, plan) in &self.by_slots {
             let [read, plan] = [read, plan].map(|times| Columns(times.per(*m)));
@@ -144,7 +144,7 @@ impl Bench {
 
     fn fmt_by_stores(&self, f: &mut fmt::Formatter) -> fmt::Result {
         let (whole, each) = ("recovery", "for each store");
-        writeln!(f, "{:8}{whole:>29} |{each:>29}", "")?;
+        writeln!(f, "{:8}{whole:>31} |{each:>31}", "")?;
         writeln!(f, "{:>8}{HEADINGS} |{HEADINGS}", "stores")?;
         for (stores, times) in &self.by_stores {
             let (whole, each) = (Columns(*times), Columns(times.per(*stores)));
