@@ -22,3 +22,6 @@ pub mod AppendListLaws
 pub mod PutLaws
 pub mod AppendSteps
 pub mod LastEntryLaws
+pub mod ReadingLaws
+pub mod LowestLaws
+pub mod RefusedLaws

@@ -49,7 +49,7 @@ named a b e = sym (condition-back a) ∙ ap conditionOf e ∙ condition-back b
 
 -- ---- a fresh entry
 
-fresh-is : (k : ℕ) (s : Bytes) → isFresh (readEntry k s) ≡ same s freshEntry
+pub fresh-is : (k : ℕ) (s : Bytes) → isFresh (readEntry k s) ≡ same s freshEntry
 unfolding isFresh
 fresh-is k s = go (readEntry k s) (entry-is k s)
   where

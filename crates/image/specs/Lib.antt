@@ -12,3 +12,6 @@ pub mod Answers
 pub mod AppendList
 pub mod AppendClaim
 pub mod LastEntry
+pub mod ReadingClaim
+pub mod LayoutClaim
+pub mod RefusalClaim

@@ -14,6 +14,7 @@ ghost use Rattle.image.specs.Verdict.{isFresh, verdictOf};
 ghost use Rattle.image.specs.Scan.{Marked, SpanIn};
 ghost use Rattle.image.specs.Read.{lentRefusal, epochsOf, verdictsOf, isWhole, hasPayload, payloadOf, payloadAt};
 ghost use Rattle.image.specs.Answers.{readAnswer, payloadAnswer};
+ghost use Rattle.image.specs.ReadingClaim.{ReadingClaim};
 use super::PayloadAnswer;
 use super::ReadAnswer;
 use super::view::entry_state;
@@ -201,3 +202,8 @@ pub fn payload_of(image: &[u8], replica: usize, n: usize, m: usize, slot: usize)
     let end = span.end;
     &image[start..end]
 }
+
+// Length, epochs, verdicts and payloads are what document 01's sentences say, as a theorem.
+pub fn reading_claim()
+    ensures { λ _. ⌜ ReadingClaim ⌝ }
+{}

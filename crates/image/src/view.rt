@@ -10,6 +10,8 @@ ghost use Rattle.image.specs.Image.{imageSize, decodeImage};
 ghost use Rattle.image.specs.View.{isSize, isSlots, callRefusal, imageRefusal, readRefusal};
 ghost use Rattle.image.specs.Seen.{Seen};
 ghost use Rattle.image.specs.Scan.{SlotIs, Scanned, lengthIn, noGapIn, noneLostIn, risingIn, scanRefusal};
+ghost use Rattle.image.specs.LayoutClaim.{LayoutClaim};
+ghost use Rattle.image.specs.RefusalClaim.{RefusalClaim};
 use record::EntryState;
 use record::RecordState;
 
@@ -287,3 +289,13 @@ pub fn open_image(image: &[u8], replica: usize, n: usize, m: usize) -> ImageView
     }
     view_image(image, replica, n, m)
 }
+
+// The sizes of an image and of a cluster, and that taken apart they have every byte, as a theorem.
+pub fn layout_claim()
+    ensures { λ _. ⌜ LayoutClaim ⌝ }
+{}
+
+// Each refusal of an image has document 01's condition, and the lowest number that applies wins, as a theorem.
+pub fn refusal_claim()
+    ensures { λ _. ⌜ RefusalClaim ⌝ }
+{}

@@ -1,5 +1,6 @@
 -- Laws that the proofs of this crate, and of the crates above it, cite.
 pub mod VerdictTies
+pub mod AskingLaws
 pub mod SetLaws
 pub mod SurveyLaws
 pub mod RuleLaws

@@ -6,3 +6,4 @@ pub mod Sets
 pub mod Survey
 pub mod Answers
 pub mod PlanRows
+pub mod AskingClaim

@@ -1,4 +1,5 @@
 // The planner: what the replicas answer about each damaged slot of the leader, and what is to be done about it.
+ghost use Rattle.planner.specs.AskingClaim.{AskingClaim};
 ghost use Rattle.planner.specs.PlanRows.{PlanRows};
 
 pub mod sets; // sets.rt: sets of replicas as words
@@ -26,4 +27,9 @@ pub struct ReplicaRow {
 // Document 01's starred places about the rules.
 pub fn plan_rows_claim()
     ensures { λ _. ⌜ PlanRows ⌝ }
+{}
+
+// Readable, faulty, the three answers and the majority are what document 01 says, as a theorem.
+pub fn asking_claim()
+    ensures { λ _. ⌜ AskingClaim ⌝ }
 {}

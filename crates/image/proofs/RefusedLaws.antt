@@ -1,0 +1,185 @@
+-- What refuses an image, number by number.
+use Prim.Native.Nat.{ℕ, zero, suc, _+_, _*_, _-_, _≤_, _<_}
+use mathlib.Core.Path.{_≡_, refl, sym, subst}
+use mathlib.Core.Bool.{Bool, true, false, cond, not, _&&_, _||_, true≢false}
+use mathlib.Core.Logic.{_⊎_, inl, inr}
+use native.Mathlib.Omega.{arith}
+use native.Mathlib.Decide.{decLt}
+use lib.Dec.{eqb, leb}
+use lib.ListN.{length}
+use borrow.Author.Tests.{eqb-true, eq-eqb, leb-true}
+use Rattle.slices.specs.Parts.{Bytes, part}
+use Rattle.slices.proofs.SameLaws.{and-left, and-right, and-true}
+use Rattle.record.specs.Layout.{headerBytes}
+use Rattle.record.specs.Meaning.{Header, proper, improper, Record, good, blank, bad, Entry, intact, broken, readHeader}
+use Rattle.record.specs.Exactly.{HeaderIs}
+use Rattle.record.proofs.HeaderLaws.{header-is, proper-read}
+use Rattle.image.specs.Refusal.{refuse, _else_}
+use Rattle.image.specs.Image.{Image, imageSize, decodeImage}
+use Rattle.image.specs.View.{Whole, Faulty, isSize, isReplica, isSlots, isBlank, isProper, isLost, condition, conditionAt, logLength, noGap, noneLost, rising, imageRefusal, callRefusal, readRefusal}
+use Rattle.image.specs.RefusalClaim.{Lowest, ReadPasses}
+use Rattle.image.proofs.CallLaws.{is-slots, slots-low, slots-high, is-replica}
+use Rattle.image.proofs.DecodeLaws.{size-is}
+use Rattle.image.proofs.ViewLaws.{length-le, used-below, blank-next, gap-elim, gap-intro, lost-elim, lost-intro, rising-intro, rising-all}
+use Rattle.image.proofs.LowestLaws.{From, Decides, try, last-of, else-assoc}
+
+-- ---- 1 to 3
+
+slots-decides : (m : ℕ) → Decides (isSlots m) ((1 ≤ m) × (m ≤ 64))
+slots-decides m = record { so = λ e. (slots-low m e, slots-high m e); back = λ p. is-slots m (p .0) (p .1) }
+
+pub size-decides : (n : ℕ) → Decides (isSize n) ((n ≡ 3) ⊎ (n ≡ 5) ⊎ (n ≡ 7))
+unfolding isSize
+size-decides n = record { so = λ e. so (eqb n 3) (eqb n 5) (eqb n 7) refl refl refl e; back = back }
+  where
+    so : (x y z : Bool) → eqb n 3 ≡ x → eqb n 5 ≡ y → eqb n 7 ≡ z → (x || y || z) ≡ true → (n ≡ 3) ⊎ (n ≡ 5) ⊎ (n ≡ 7)
+    so true y z a b c e = inl (eqb-true n 3 a)
+    so false true z a b c e = inr (inl (eqb-true n 5 b))
+    so false false true a b c e = inr (inr (eqb-true n 7 c))
+    so false false false a b c e = absurd (true≢false (sym e))
+
+    back : (n ≡ 3) ⊎ (n ≡ 5) ⊎ (n ≡ 7) → (eqb n 3 || eqb n 5 || eqb n 7) ≡ true
+    back (inl e) = rw e
+    back (inr (inl e)) = rw e
+    back (inr (inr e)) = rw e
+
+replica-decides : (n c : ℕ) → Decides (isSize n && isReplica n c) (((n ≡ 3) ⊎ (n ≡ 5) ⊎ (n ≡ 7)) × ((1 ≤ c) × (c ≤ n)))
+replica-decides n c = record {
+  so = λ e. (size-decides n .so (and-left (isSize n) (isReplica n c) e), within (and-right (isSize n) (isReplica n c) e));
+  back = λ p. and-true (isSize n) (isReplica n c) (size-decides n .back (p .0)) (is-replica n c (p .1 .0) (p .1 .1));
+}
+  where
+    within : isReplica n c ≡ true → (1 ≤ c) × (c ≤ n)
+    within e = unfold isReplica in (leb-true 1 c (and-left (leb 1 c) (leb c n) e), leb-true c n (and-right (leb 1 c) (leb c n) e))
+
+bytes-decides : (m size : ℕ) → Decides (eqb size (imageSize m)) (size ≡ 28 + 274 * m)
+bytes-decides m size = record {
+  so = λ e. omega (arith, eqb-true size (imageSize m) e, size-is m);
+  back = λ p. eq-eqb size (imageSize m) (omega (arith, size-is m));
+}
+
+-- ---- 4
+
+header-decides : (c n m : ℕ) (b : Bytes) → Decides (isProper (readHeader c n m b)) (b ≡ headerBytes c n m)
+unfolding isProper
+header-decides c n m b = record { so = λ e. so (readHeader c n m b) (header-is c n m b) e; back = λ p. rw (proper-read c n m b p) }
+  where
+    so : (h : Header) → HeaderIs c n m b h → isProper h ≡ true → b ≡ headerBytes c n m
+    so proper p e = p
+    so (improper z) p e = absurd (true≢false (sym e))
+
+-- ---- 5 to 7
+
+module _ (m : ℕ) (i : Image) where
+  blank-apart : (r : Record) → isBlank r ≡ false → ¬ (r ≡ blank)
+  unfolding isBlank
+  blank-apart r h e = true≢false (rw e at h)
+
+  -- the first blank record ends the log
+  log-ends : (k : ℕ) → k < m → i .records k ≡ blank → logLength m i ≤ k
+  log-ends k h e = go (decLt k (logLength m i))
+    where
+      go : Dec (k < logLength m i) → logLength m i ≤ k
+      go (yes l) = absurd (blank-apart (i .records k) (used-below m i k l) e)
+      go (no l) = omega arith
+
+  gap-decides : Decides (noGap m i) ((j k : ℕ) → j < k → k < m → i .records j ≡ blank → i .records k ≡ blank)
+  gap-decides = record {
+    so = λ g j k l h e. gap-elim m i g k (omega (arith, log-ends j (omega arith) e)) h;
+    back = λ p. gap-intro m i (λ k l h. tail p k l h (decLt (logLength m i) k));
+  }
+    where
+      tail : ((j k : ℕ) → j < k → k < m → i .records j ≡ blank → i .records k ≡ blank) → (k : ℕ) → logLength m i ≤ k → k < m
+          → Dec (logLength m i < k) → i .records k ≡ blank
+      tail p k l h (yes q) = p (logLength m i) k q h (blank-next m i (omega arith))
+      tail p k l h (no q) = let z : k ≡ logLength m i = omega arith in rw z (blank-next m i (omega arith))
+
+  lost-is : (r : Record) (x : Entry) → ((y z : Bytes) → r ≡ bad y → ¬ (x ≡ broken z)) → isLost (condition r x) ≡ false
+  unfolding isLost condition
+  lost-is (good e) (intact d p) f = go (eqb e d)
+    where
+      go : (t : Bool) → isLost (cond t Whole Faulty) ≡ false
+      go true = refl
+      go false = refl
+  lost-is (good e) (broken z) f = refl
+  lost-is blank x f = refl
+  lost-is (bad y) (intact e p) f = refl
+  lost-is (bad y) (broken z) f = absurd (f y z refl refl)
+
+  lost-decides : Decides (noneLost m i) ((k : ℕ) (y z : Bytes) → k < m → i .records k ≡ bad y → ¬ (i .entries k ≡ broken z))
+  unfolding conditionAt
+  lost-decides = record {
+    so = λ l k y z h r x. lost (lost-elim m i l k h) r x;
+    back = λ p. lost-intro m i (λ k h. lost-is (i .records k) (i .entries k) (λ y z. p k y z h));
+  }
+    where
+      lost : {r : Record} {x : Entry} {y z : Bytes} → isLost (condition r x) ≡ false → r ≡ bad y → ¬ (x ≡ broken z)
+      lost h e f = true≢false (unfold isLost condition in rw (e, f) at h)
+
+  -- of an image without a gap
+  rising-decides : noGap m i ≡ true
+      → (c n : ℕ) (b : Bytes) → Decides (rising m i) (ReadPasses c n m b i 7)
+  rising-decides g c n b = record {
+    so = λ r j k l h a b. let z : j + (k - j) ≡ k = omega arith in omega (arith, rw z at (rising-all m i r (k - j) j (rw z (used k h b (decLt k (logLength m i))))));
+    back = λ p. rising-intro m i (λ k l. p k (suc k) (omega arith) (omega (arith, length-le m i))
+        (blank-apart _ (used-below m i k (omega arith))) (blank-apart _ (used-below m i (suc k) l)));
+  }
+    where
+      used : (k : ℕ) → k < m → ¬ (i .records k ≡ blank) → Dec (k < logLength m i) → k < logLength m i
+      used k h b (yes l) = l
+      used k h b (no l) = absurd (b (gap-elim m i g k (omega arith) h))
+
+-- ---- all of them
+
+module _ (c n m : ℕ) (b : Bytes) where
+  abbrev i : Image
+  i = decodeImage c n m b
+
+  abbrev Passes : ℕ → Type 0
+  Passes = ReadPasses c n m b (decodeImage c n m b)
+
+  beyond : (q : ℕ) → 8 ≤ q → Passes q
+  beyond zero h = absurd (omega arith)
+  beyond (suc zero) h = absurd (omega arith)
+  beyond (suc (suc zero)) h = absurd (omega arith)
+  beyond (suc (suc (suc zero))) h = absurd (omega arith)
+  beyond (suc (suc (suc (suc zero)))) h = absurd (omega arith)
+  beyond (suc (suc (suc (suc (suc zero))))) h = absurd (omega arith)
+  beyond (suc (suc (suc (suc (suc (suc zero)))))) h = absurd (omega arith)
+  beyond (suc (suc (suc (suc (suc (suc (suc zero))))))) h = absurd (omega arith)
+  beyond (suc (suc (suc (suc (suc (suc (suc (suc q)))))))) h = tt
+
+  of-image : From Passes 4 (imageRefusal m i)
+  unfolding imageRefusal decodeImage
+  of-image =
+      try Passes 4 (isProper (i .header)) _ (λ e. omega arith) (header-decides c n m (part b 0 28))
+      (λ _. try Passes 5 (noGap m i) _ (λ e. omega arith) (gap-decides m i)
+      (λ g. try Passes 6 (noneLost m i) _ (λ e. omega arith) (lost-decides m i)
+      (λ _. seven (gap-decides m i .back g))))
+    where
+      seven : noGap m i ≡ true → From Passes 7 (refuse 7 (not (rising m i)))
+      seven g = subst (From Passes 7) (end (refuse 7 (not (rising m i))))
+          (try Passes 7 (rising m i) 0 (λ e. omega arith) (rising-decides m i g c n b) (λ _. last-of Passes 8 beyond))
+        where
+          end : (r : ℕ) → (r else 0) ≡ r
+          end zero = unfold _else_ in refl
+          end (suc r) = unfold _else_ in refl
+
+  from-one : From Passes 1 (readRefusal c n m b)
+  unfolding readRefusal callRefusal
+  from-one =
+      rw (else-assoc, else-assoc)
+      (try Passes 1 (isSlots m) _ (λ e. omega arith) (slots-decides m)
+      (λ _. try Passes 2 (isSize n && isReplica n c) _ (λ e. omega arith) (replica-decides n c)
+      (λ _. try Passes 3 (eqb (length b) (imageSize m)) _ (λ e. omega arith) (bytes-decides m (length b)) (λ _. of-image))))
+
+  pub lowest-wins : Lowest (ReadPasses c n m b (decodeImage c n m b)) (readRefusal c n m b)
+  lowest-wins = record {
+    applies = from-one .applies;
+    below = λ z q h. all q (λ l. from-one .below z q l h);
+    none = λ z q. all q (from-one .none z q);
+  }
+    where
+      all : (q : ℕ) → (1 ≤ q → Passes q) → Passes q
+      all zero f = tt
+      all (suc q) f = f (omega arith)

@@ -1,0 +1,56 @@
+-- Who is readable, what a replica answers and what a majority is, in document 01's words.
+use Prim.Native.Nat.{ℕ, suc, _+_, _/_, _<_}
+use mathlib.Core.Path.{_≡_, refl, sym, ap}
+use mathlib.Core.Bool.{Bool, true, false, not, _&&_, true≢false}
+use mathlib.Core.Logic.{_⊎_, inl, inr}
+use native.Mathlib.Omega.{arith}
+use lib.Dec.{eqb}
+use lib.ListN.{length}
+use Rattle.search.specs.Search.{oneIf}
+use Rattle.slices.specs.Parts.{Bytes}
+use Rattle.image.specs.View.{Condition, Unused, Whole, RecordLost, Faulty, Lost, View, isSize, isSlots, isLost, viewOf, callRefusal, readRefusal}
+use Rattle.image.specs.Read.{isWhole}
+use Rattle.image.specs.Cluster.{imageAt, imagePart, decode}
+use Rattle.image.proofs.RefusalLaws.{else-next}
+use Rattle.image.proofs.RefusedLaws.{size-decides}
+use Rattle.image.proofs.CallLaws.{is-replica, call-none}
+use Rattle.image.proofs.DecodeLaws.{size-is}
+use Rattle.image.proofs.ClusterLaws.{length-image}
+use Rattle.planner.specs.Setting.{Setting, has, settingOf, viewsOf}
+use Rattle.planner.specs.Rules.{majority, isFaulty, isUsed, answers, agrees, have, haveFaulty, dontHave}
+use Rattle.planner.specs.Plan.{viewsIn}
+
+pub own-refusal : (n m leader present : ℕ) (b : Bytes) (c : ℕ) → isSize n ≡ true → isSlots m ≡ true → length b ≡ imageAt m n → c < n
+    → viewsIn (settingOf n m leader present) b c .readable ≡ has present c && eqb (readRefusal (suc c) n m (imagePart m b c)) 0
+unfolding viewsIn viewsOf settingOf viewOf decode readRefusal
+own-refusal n m leader present b c sized slots size h =
+    let l = length-image n m b size c h in
+    let z : callRefusal (suc c) n m (length (imagePart m b c)) ≡ 0
+    = sym (call-none (suc c) n m (length (imagePart m b c)) slots sized (is-replica n (suc c) (omega arith) (omega arith)) (omega (arith, l, size-is m))) in
+    ap (λ (r : ℕ). has present c && eqb r 0) (sym (else-next _ z))
+
+pub one-answer : (S : Setting) (W : ℕ → View) (k c : ℕ) → isLost (W c .condition k) ≡ false
+    → oneIf (have S W k c) + oneIf (haveFaulty S W k c) + oneIf (dontHave S W k c) ≡ oneIf (answers S W c)
+unfolding have haveFaulty dontHave agrees isWhole isFaulty isUsed isLost oneIf
+one-answer S W k c h = go (answers S W c) (W c .condition k) (eqb (W c .epoch k) (W (S .leader) .epoch k)) h
+  where
+    go : (a : Bool) (x : Condition) (e : Bool) → isLost x ≡ false
+        → oneIf (a && isWhole x && (isUsed x && e)) + oneIf (a && isFaulty x && (isUsed x && e)) + oneIf (a && not (isUsed x && e)) ≡ oneIf a
+    go false x e h = refl
+    go true Unused e h = refl
+    go true Whole true h = refl
+    go true Whole false h = refl
+    go true RecordLost true h = refl
+    go true RecordLost false h = refl
+    go true Faulty true h = refl
+    go true Faulty false h = refl
+    go true Lost e h = absurd (true≢false h)
+
+pub majority-is : (n : ℕ) → isSize n ≡ true → majority n ≡ (n + 1) / 2
+unfolding majority
+majority-is n e = go (size-decides n .so e)
+  where
+    go : (n ≡ 3) ⊎ (n ≡ 5) ⊎ (n ≡ 7) → n / 2 + 1 ≡ (n + 1) / 2
+    go (inl q) = rw q
+    go (inr (inl q)) = rw q
+    go (inr (inr q)) = rw q

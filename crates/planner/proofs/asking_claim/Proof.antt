@@ -1,0 +1,21 @@
+-- The claim's parts are laws.
+use native.Mathlib.Omega.{arith}
+use Rattle.image.proofs.ViewLaws.{sound-elim}
+use Rattle.image.proofs.VerdictLaws.{whole-verdict}
+use Rattle.planner.proofs.VerdictTies.{faulty-verdict, used-verdict}
+use Rattle.planner.proofs.AskingLaws as law
+use Rattle.planner.proofs.asking_claim.Statement.{statement}
+use Rattle.planner.proofs.asking_claim.Tie as tie
+
+returns : tie.Need-returns
+returns z = record {
+  faulty = faulty-verdict;
+  whole = whole-verdict;
+  used = λ m i k ok h. used-verdict m i k (sound-elim m i ok .kept k h);
+  readable = law.own-refusal;
+  one-answer = law.one-answer;
+  majority-is = λ n h. omega (arith, law.majority-is n h);
+}
+
+pub asking-claim-spec : {M : Type 1} → statement M
+asking-claim-spec = tie.close (tie.spec returns)

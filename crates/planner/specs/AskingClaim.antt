@@ -1,0 +1,31 @@
+-- What document 01 says of the planner's words, as a claim that the check demands.
+use Prim.Native.Nat.{ℕ, suc, _+_, _/_, _<_}
+use mathlib.Core.Path.{_≡_}
+use mathlib.Core.Bool.{true, false, _&&_, _||_}
+use lib.Dec.{eqb, leb}
+use lib.ListN.{length}
+use Rattle.search.specs.Search.{oneIf}
+use Rattle.slices.specs.Parts.{Bytes}
+use Rattle.image.specs.Image.{Image}
+use Rattle.image.specs.View.{View, isSize, isSlots, isLost, conditionAt, imageRefusal, readRefusal}
+use Rattle.image.specs.Verdict.{verdictAt}
+use Rattle.image.specs.Read.{isWhole}
+use Rattle.image.specs.Cluster.{imageAt, imagePart}
+use Rattle.planner.specs.Setting.{Setting, has, settingOf}
+use Rattle.planner.specs.Rules.{majority, isFaulty, isUsed, answers, have, haveFaulty, dontHave}
+use Rattle.planner.specs.Plan.{viewsIn}
+
+pub record AskingClaim : Type 0 where
+  -- verdicts 3 and 4 together are called faulty; whole are 1 and 2; used are 1 to 4
+  pub faulty : (m : ℕ) (i : Image) (k : ℕ) → isFaulty (conditionAt i k) ≡ (eqb (verdictAt m i k) 3 || eqb (verdictAt m i k) 4)
+  pub whole : (m : ℕ) (i : Image) (k : ℕ) → isWhole (conditionAt i k) ≡ (eqb (verdictAt m i k) 1 || eqb (verdictAt m i k) 2)
+  pub used : (m : ℕ) (i : Image) (k : ℕ) → imageRefusal m i ≡ 0 → k < m
+      → isUsed (conditionAt i k) ≡ (leb 1 (verdictAt m i k) && leb (verdictAt m i k) 4)
+  -- a present replica whose own image is refused (1 to 7) is unreadable
+  pub readable : (n m leader present : ℕ) (b : Bytes) (c : ℕ) → isSize n ≡ true → isSlots m ≡ true → length b ≡ imageAt m n → c < n
+      → viewsIn (settingOf n m leader present) b c .readable ≡ has present c && eqb (readRefusal (suc c) n m (imagePart m b c)) 0
+  -- a replica that is asked gives exactly one of the three answers, and no other replica gives one
+  pub one-answer : (S : Setting) (W : ℕ → View) (k c : ℕ) → isLost (W c .condition k) ≡ false
+      → oneIf (have S W k c) + oneIf (haveFaulty S W k c) + oneIf (dontHave S W k c) ≡ oneIf (answers S W c)
+  -- a majority is (n + 1) / 2
+  pub majority-is : (n : ℕ) → isSize n ≡ true → majority n ≡ (n + 1) / 2
