@@ -10,9 +10,7 @@ use lib.Dec.{eqb, leb}
 use lib.ListN.{length, length-append}
 use borrow.Author.Tests.{eqb-true, leb-true, le-leb}
 use Rattle.slices.specs.Parts.{Bytes}
-use Rattle.slices.specs.AllBytes.{AllBytes}
 use Rattle.slices.proofs.SameLaws.{and-right}
-use Rattle.slices.proofs.AllBytesLaws.{all-append}
 use Rattle.column.specs.Column.{digits, column, digitStep, valueFrom, valueOf}
 use Rattle.column.specs.Digit.{lastByte, highByte}
 
@@ -35,28 +33,6 @@ pub length-column : (w x : ℕ) → length (column w x) ≡ w
 unfolding column
 length-column zero x = refl
 length-column (suc w) x = rw (length-append, length-digits w (x / 10), add-one)
-
-last-byte-lt : (x : ℕ) → lastByte x < 256
-unfolding lastByte
-last-byte-lt x = omega arith
-
-high-byte-lt : (x : ℕ) → highByte x < 256
-unfolding highByte
-high-byte-lt x = go (eqb x 0)
-  where
-    go : (t : Bool) → cond t 32 (48 + x % 10) < 256
-    go true = omega arith
-    go false = omega arith
-
-pub all-digits : (w x : ℕ) → AllBytes (digits w x)
-unfolding digits highByte
-all-digits zero x = tt
-all-digits (suc w) x = all-append (digits w (x / 10)) (highByte x ∷ []) (all-digits w (x / 10)) (high-byte-lt x, tt)
-
-pub all-column : (w x : ℕ) → AllBytes (column w x)
-unfolding column lastByte
-all-column zero x = tt
-all-column (suc w) x = all-append (digits w (x / 10)) (lastByte x ∷ []) (all-digits w (x / 10)) (last-byte-lt x, tt)
 
 -- ---- read from the left
 

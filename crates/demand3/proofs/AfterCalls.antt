@@ -19,7 +19,7 @@ use Rattle.demand3.specs.CallList.{Request, CallList, finished, refused,
 use Rattle.protocol.specs.Call.{Numbers, named, refusalIn}
 use Rattle.protocol.proofs.Work.{work-bound}
 use Rattle.protocol.proofs.Reach.{here, reach-on}
-use Rattle.protocol.proofs.Runs.{enough, reach-steps, finishes, stores-bound, spent-all, steps-stores, unspent}
+use Rattle.protocol.proofs.Runs.{enough, finishes, stores-bound, spent-all, steps-stores, unspent}
 use Rattle.protocol.proofs.Always.{Always, always}
 use Rattle.protocol.proofs.StepLaws.{Means, steps-mean, stores-mean}
 use Rattle.demand3.proofs.LeftLaws.{Reached, left-reach}
@@ -36,7 +36,6 @@ pub record Unsupposed (S : Setting) (b₀ b : Bytes) : Type 0 where
   pub spent : (j : ℕ) (s : Store) → nextIn S (stepsBytes S j b) ≡ some s → storesBytes S j b ≡ j
   pub unspent : (j : ℕ) → enough S ≤ j → nextIn S (stepsBytes S j b) ≡ none
   pub bytes : (i j : ℕ) → nextIn S (stepsBytes S i b) ≡ none → nextIn S (stepsBytes S j b₀) ≡ none → stepsBytes S i b ≡ stepsBytes S j b₀
-  pub runAnswers : (j : ℕ) → answer S (viewsIn S (stepsBytes S j b)) ≡ answer S (viewsIn S b₀)
 
 -- a plan that waits has no store
 pub waiting-none : (S : Setting) (b : Bytes) (k : ℕ) → answer S (viewsIn S b) ≡ Waiting k → next S (decode (S .n) (S .m) b) ≡ none
@@ -81,7 +80,6 @@ module _ (S : Setting) (low : S .leader < S .n) (b₀ b : Bytes) (size : length 
         spent = λ j s e. stores-mean S low j b (r .size) ∙ spent-all S j F s (rw (means j .is) at e);
         unspent = λ j h. rw (means j .is) (finishes S low j F (omega (arith, work-bound S F)));
         bytes = same-end;
-        runAnswers = λ j. rw (means j .is) (always S (decode (S .n) (S .m) b₀) low (reach-on S (r .reach) (reach-steps S j F)) .answers);
       }
 
 pub calls-reach : (N : Numbers) (low : named N .leader < named N .n) {qs : List Request} {b z : Bytes} → length b ≡ imageAt (named N .m) (named N .n) → CallList N qs b z → Reached (named N) low b z

@@ -6,18 +6,17 @@ use native.Mathlib.Omega.{arith}
 use native.Mathlib.Decide.{ℕ-discrete}
 use lib.Dec.{eqb, leb, ltb}
 use lib.ListN.{length}
-use borrow.Author.Tests.{eqb-true, leb-true, not-false, eq-eqb, ne-eqb, le-leb}
+use borrow.Author.Tests.{eqb-true, leb-true, not-false, eq-eqb, ne-eqb}
 use Rattle.slices.specs.Parts.{Bytes}
 use Rattle.slices.proofs.SameLaws.{and-left, and-right}
 use Rattle.image.specs.Refusal.{refuse, _else_}
-use Rattle.image.specs.View.{isSize, isReplica, isSlots, callRefusal, readRefusal, viewOf}
-use Rattle.image.specs.Image.{imageSize}
-use Rattle.image.specs.Cluster.{imageAt, imagePart, decode}
-use Rattle.image.proofs.RefusalLaws.{refuse-off, refuse-zero, else-zero-l, else-zero-r, else-zero, else-next}
-use Rattle.image.proofs.ClusterLaws.{length-image}
-use Rattle.planner.specs.Setting.{Setting, settingOf, viewsOf}
+use Rattle.image.specs.View.{isSize, isReplica, isSlots}
+use Rattle.image.specs.Cluster.{imageAt}
+use Rattle.image.proofs.RefusalLaws.{refuse-off, refuse-zero, else-zero-l, else-zero-r}
+use Rattle.planner.specs.Setting.{Setting, settingOf}
 use Rattle.planner.specs.Rules.{Answer, Refused, Waiting, Ready, answer, firstWaiting, end}
 use Rattle.planner.specs.Plan.{viewsIn, clusterRefusal, planRefusal}
+use Rattle.planner.proofs.AskingLaws.{own-refusal}
 use Rattle.protocol.specs.StepBytes.{nextIn, stepsBytes, storesBytes}
 use Rattle.protocol.specs.Call.{Call, plan, step, run, Numbers, named, budgetOf, refusalIn, refusalOf}
 use Rattle.protocol.specs.CallResult.{refused, callResult, callBytes, acceptedResult, readyResult, answered, stepResult, runResult, planning}
@@ -165,13 +164,6 @@ standing N b = go (ℕ-discrete (refusalIn N b) 0)
     go (no h) = isRefused h
 
 -- ---- what is readable
-in-range : (N : Numbers) (b : Bytes) → Accepted N b → (c : ℕ) → c < N .n → callRefusal (suc c) (N .n) (N .m) (length (imagePart (N .m) b c)) ≡ 0
-unfolding callRefusal isReplica
-in-range N b a c cn =
-    else-zero (refuse-off 1 (rw (a .slots)))
-    (else-zero (refuse-off 2 (rw (a .sizes, le-leb 1 (suc c) (omega arith), le-leb (suc c) (N .n) (omega arith))))
-    (refuse-off 3 (rw (eq-eqb (length (imagePart (N .m) b c)) (imageSize (N .m)) (length-image (N .n) (N .m) b (a .size) c cn)))))
-
 pub readable-view : (N : Numbers) (b : Bytes) → Accepted N b → (c : ℕ) → c < N .n → readable N b c ≡ viewsIn (named N) b c .readable
-unfolding readable viewsIn viewsOf viewOf settingOf readRefusal decode
-readable-view N b a c cn = rw (else-next _ (in-range N b a c cn))
+unfolding readable
+readable-view N b a c cn = sym (own-refusal (N .n) (N .m) (N .leader) (N .present) b c (a .sizes) (a .slots) (a .size) cn)

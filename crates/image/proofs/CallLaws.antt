@@ -106,7 +106,3 @@ module _ (c n m size : ℕ) (none : callRefusal c n m size ≡ 0) where
   pub called-size : size ≡ imageSize m
   unfolding callRefusal
   called-size = eqb-true size (imageSize m) (not-false _ (refuse-zero 2 _ (else-zero-r r2 r3 (else-zero-r r1 (r2 else r3) none))))
-
-  pub called-replica : isSize n && isReplica n c ≡ true
-  unfolding callRefusal
-  called-replica = not-false _ (refuse-zero 1 _ (else-zero-l r2 r3 (else-zero-r r1 (r2 else r3) none)))

@@ -22,7 +22,7 @@ use Rattle.record.proofs.HeaderLaws.{read-proper}
 use Rattle.record.proofs.RecordLaws.{read-blank}
 use Rattle.record.proofs.EntryLaws.{fresh-read}
 use Rattle.image.specs.Image.{Image, imageSize, recordAt, entryAt, decodeImage, freshImage}
-use Rattle.image.specs.View.{Unused, condition, epochOf, isBlank, isProper, isLost, conditionAt, epochAt, logLength, callRefusal, readRefusal}
+use Rattle.image.specs.View.{Unused, condition, isBlank, isProper, isLost, conditionAt, logLength, callRefusal, readRefusal}
 use Rattle.image.specs.Verdict.{isFresh, verdictAt}
 use Rattle.image.proofs.RefusalLaws.{else-zero}
 use Rattle.image.proofs.ViewLaws.{Sound, sound-intro}
@@ -114,10 +114,6 @@ module _ (c n m : ℕ) where
   pub fresh-condition : (k : ℕ) → conditionAt fresh k ≡ Unused
   unfolding conditionAt condition
   fresh-condition k = rw (fresh-blank k)
-
-  pub fresh-epoch : (k : ℕ) → epochAt fresh k ≡ 0
-  unfolding epochAt epochOf
-  fresh-epoch k = rw (fresh-blank k)
 
   pub fresh-verdict : (k : ℕ) → k < m → verdictAt m fresh k ≡ 0
   fresh-verdict k h = verdict-unused m fresh k (fresh-condition k) ∙ rw (fresh-fresh k h, and-off)

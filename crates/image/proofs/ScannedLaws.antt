@@ -1,5 +1,5 @@
 -- What the scan works out of its two arrays is what View.antt says of the image.
-use Prim.Native.Nat.{ℕ, suc, _≤_, _<_}
+use Prim.Native.Nat.{ℕ, suc, _<_}
 use mathlib.Core.Path.{_≡_, refl, sym, ap, _∙_}
 use mathlib.Core.Bool.{Bool, true, false, cond, not, _||_}
 use mathlib.Core.List.{List}
@@ -41,13 +41,6 @@ lost-number Whole = refl
 lost-number RecordLost = refl
 lost-number Faulty = refl
 lost-number Lost = refl
-
-pub number-le : (a : Condition) → conditionNumber a ≤ 4
-number-le Unused = omega arith
-number-le Whole = omega arith
-number-le RecordLost = omega arith
-number-le Faulty = omega arith
-number-le Lost = omega arith
 
 -- ---- the image that was scanned
 

@@ -1,11 +1,11 @@
 -- What the reader's tests say of an image, in plain terms: `Sound` is an image that is not refused.
 use Prim.Native.Nat.{ℕ, zero, suc, _+_, _≤_, _<_}
 use mathlib.Core.Path.{_≡_, refl, sym, ap}
-use mathlib.Core.Bool.{Bool, true, false, not, _&&_, _||_, true≢false}
+use mathlib.Core.Bool.{Bool, true, false, not, _||_, true≢false}
 use native.Mathlib.Omega.{arith}
 use native.Mathlib.Decide.{decLt}
 use lib.Dec.{eqb, leb, ltb}
-use borrow.Author.Tests.{eqb-true, eq-eqb, ne-eqb, leb-true, lt-ltb, le-ltb, le-leb, not-true, not-false}
+use borrow.Author.Tests.{eqb-true, eq-eqb, leb-true, lt-ltb, le-ltb, le-leb, not-true, not-false}
 use Rattle.search.specs.Search.{count}
 use Rattle.search.proofs.SearchLaws.{lowest-le, lowest-passes, below-lowest, all-elim, all-intro}
 use Rattle.search.proofs.CountLaws.{count-below}
@@ -153,12 +153,3 @@ module _ (present : Bool) (m : ℕ) (i : Image) where
   pub readable-intro : present ≡ true → Sound m i → viewOf present m i .readable ≡ true
   unfolding viewOf
   readable-intro p s = rw (p, eq-eqb (imageRefusal m i) 0 (sound-intro m i s))
-
-  -- a refused one is as good as away
-  pub refused-unreadable : (imageRefusal m i ≡ 0 → ⊥) → viewOf present m i .readable ≡ false
-  unfolding viewOf
-  refused-unreadable h = rw (ne-eqb (imageRefusal m i) 0 h) (off present)
-    where
-      off : (b : Bool) → (b && false) ≡ false
-      off true = refl
-      off false = refl

@@ -6,7 +6,7 @@ use lib.Dec.{eqb, leb}
 use Rattle.image.specs.Image.{Image}
 use Rattle.image.specs.View.{Condition, Unused, Whole, RecordLost, Faulty, Lost, isLost, conditionAt, logLength}
 use Rattle.image.specs.Verdict.{isFresh, verdictOf, verdictAt}
-use Rattle.planner.specs.Rules.{isFaulty, isRecordLost, isUsed}
+use Rattle.planner.specs.Rules.{isFaulty, isUsed}
 
 -- by cases on the two tests that a verdict looks at
 faulty-is : (len k : ℕ) (a : Condition) (fresh : Bool) → isFaulty a ≡ (eqb (verdictOf len k a fresh) 3 || eqb (verdictOf len k a fresh) 4)

@@ -19,8 +19,6 @@ pub data Due (S : Setting) (F : Cluster) (s : Store) : Type 0 where
 
 -- a store is due only from a ready plan
 pub record Outstanding (S : Setting) (F : Cluster) (s : Store) : Type 0 where
-  pub final : ℕ
-  pub says : answer S (viewsOf S F) ≡ Ready final
   pub plan : ReadyPlan S (viewsOf S F)
   pub is-due : Due S F s
 
@@ -33,4 +31,4 @@ due-facts S F s e = go (answer S (viewsOf S F)) refl e
     go (Waiting k) p e = absurd (let z : _≡_ {A = ℕ} 0 1 = cc in omega arith)
     go (Ready l) p e =
         let r = ready-facts S (viewsOf S F) l p in
-        record { final = l; says = p; plan = r; is-due = or-elim (leaderStore S (viewsOf S F)) (followersStore S F) s e (λ q. by-leader q (leader-due S F s q)) (λ z q. by-follower z q (followers-due S F s (leader-done S (viewsOf S F) r z) q)) }
+        record { plan = r; is-due = or-elim (leaderStore S (viewsOf S F)) (followersStore S F) s e (λ q. by-leader q (leader-due S F s q)) (λ z q. by-follower z q (followers-due S F s (leader-done S (viewsOf S F) r z) q)) }

@@ -19,7 +19,6 @@ pub mod Runs
 pub mod Keeps
 pub mod Sources
 pub mod Consistency
-pub mod Outstanding
 pub mod NoTruncation
 pub mod Invariant
 pub mod Always

@@ -4,7 +4,7 @@ use mathlib.Core.Path.{_≡_, refl, sym, _∙_, ap, ap₂}
 use mathlib.Core.List.{_++_}
 use native.Mathlib.Omega.{arith}
 use lib.ListN.{length, take, drop, getD, set, take-append-drop}
-use lib.Seq.{take-set-le, take-set-lt, drop-set-lt, getD-take, length-take-le, set-set}
+use lib.Seq.{take-set-le, take-set-lt, drop-set-lt, getD-take, length-take-le}
 use Rattle.slices.specs.Parts.{Bytes, part}
 use Rattle.slices.proofs.PartLaws.{drop-take}
 use Rattle.checksum.specs.Checksum.{checksumOf}
@@ -78,9 +78,3 @@ changed-twice k e p b i j x y k′ h hi hj bi bj hx hy differs = broken-read k�
     same e′ p′ m =
         sealed-stores (26 + length p) b (26 + i) (26 + j) x y fits (omega arith) (omega arith) (omega (arith, w .short)) bi bj hx hy
         (sealed-for (length p) b k e p w refl) (sealed-for (length p) c k′ e′ p′ m (as-long e′ p′ m))
-
-pub changed-once : (k e : ℕ) (p b : Bytes) (i x k′ : ℕ) → readEntry k b ≡ intact e p → i < length p
-    → getD b (26 + i) 0 < 256 → x < 256 → ¬ (set b (26 + i) x ≡ b) → readEntry k′ (set b (26 + i) x) ≡ broken (set b (26 + i) x)
-changed-once k e p b i x k′ h hi bi hx differs =
-    let z = set-set b (26 + i) x x in
-    rw z at (changed-twice k e p b i i x x k′ h hi hi bi bi hx hx (λ g. differs (sym z ∙ g)))

@@ -131,10 +131,6 @@ module _ (k : ℕ) (b : Bytes) where
   pub intact-read : (e : ℕ) (p : Bytes) → IntactFor k e p b → readEntry k b ≡ intact e p
   intact-read e p i = entry-read k b (intact e p) i
 
-  -- broken keeps the bytes that are read
-  pub broken-for : (z : Bytes) → readEntry k b ≡ broken z → (z ≡ b) × ((e : ℕ) (p : Bytes) → ¬ (IntactFor k e p b))
-  broken-for z h = rw h at (entry-is k b)
-
   pub broken-read : ((e : ℕ) (p : Bytes) → ¬ (IntactFor k e p b)) → readEntry k b ≡ broken b
   broken-read h = entry-read k b (broken b) (refl, h)
 
@@ -153,7 +149,3 @@ write-read-entry k b = entry-written k b (readEntry k b) (entry-is k b)
 
 pub read-intact : (k e : ℕ) (p : Bytes) → isEpoch e ≡ true → length p ≤ 200 → readEntry k (entryBytes e k p) ≡ intact e p
 read-intact k e p h l = intact-read k (entryBytes e k p) e p (record { epoch = h; short = l; bytes = refl })
-
-pub read-write-intact : (k e : ℕ) (p : Bytes) → isEpoch e ≡ true → length p ≤ 200 → readEntry k (writeEntry k (intact e p)) ≡ intact e p
-unfolding writeEntry
-read-write-intact k e p h l = read-intact k e p h l

@@ -23,18 +23,8 @@ module _ (c n m : ℕ) (b : Bytes) where
   header-read proper h = rw (same-eq b (headerBytes c n m) h)
   header-read (improper z) h = rw (same-differs b (headerBytes c n m) (h .1)) (ap improper (sym (h .0)))
 
-  pub proper-for : readHeader c n m b ≡ proper → b ≡ headerBytes c n m
-  proper-for h = rw h at header-is
-
   pub proper-read : b ≡ headerBytes c n m → readHeader c n m b ≡ proper
   proper-read h = header-read proper h
-
-  -- improper keeps the bytes that are read
-  pub improper-for : (z : Bytes) → readHeader c n m b ≡ improper z → (z ≡ b) × ¬ (b ≡ headerBytes c n m)
-  improper-for z h = rw h at header-is
-
-  pub improper-read : ¬ (b ≡ headerBytes c n m) → readHeader c n m b ≡ improper b
-  improper-read h = header-read (improper b) (refl, h)
 
   header-written : (h : Header) → HeaderIs c n m b h → writeHeader c n m h ≡ b
   unfolding writeHeader
@@ -46,7 +36,3 @@ module _ (c n m : ℕ) (b : Bytes) where
 
 pub read-proper : (c n m : ℕ) → readHeader c n m (headerBytes c n m) ≡ proper
 read-proper c n m = proper-read c n m (headerBytes c n m) refl
-
-pub read-write-proper : (c n m : ℕ) → readHeader c n m (writeHeader c n m proper) ≡ proper
-unfolding writeHeader
-read-write-proper c n m = read-proper c n m

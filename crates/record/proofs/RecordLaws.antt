@@ -12,7 +12,7 @@ use Rattle.slices.proofs.SameLaws.{and-left, and-right, and-true, clash, not-so
 use Rattle.column.specs.Column.{valueOf, valueFrom, digitStep}
 use Rattle.record.specs.Layout.{sealed, recordBytes, blankRecord}
 use Rattle.record.specs.Meaning.{Record, good, blank, bad, isEpoch, isGood, recordEpoch, readRecord, writeRecord}
-use Rattle.record.specs.Exactly.{GoodFor, BadFor, RecordIs}
+use Rattle.record.specs.Exactly.{GoodFor, RecordIs}
 use Rattle.record.proofs.LayoutLaws.{column-at}
 
 -- ---- epochs
@@ -87,18 +87,8 @@ module _ (k : ℕ) (b : Bytes) where
   pub good-read : (e : ℕ) → GoodFor k e b → readRecord k b ≡ good e
   good-read e g = record-read k b (good e) g
 
-  pub blank-for : readRecord k b ≡ blank → b ≡ blankRecord
-  blank-for h = rw h at (record-is k b)
-
   pub blank-read : b ≡ blankRecord → readRecord k b ≡ blank
   blank-read h = record-read k b blank h
-
-  -- bad keeps the bytes that are read, which are neither good nor blank
-  pub bad-for : (z : Bytes) → readRecord k b ≡ bad z → (z ≡ b) × BadFor k b
-  bad-for z h = rw h at (record-is k b)
-
-  pub bad-read : BadFor k b → readRecord k b ≡ bad b
-  bad-read h = record-read k b (bad b) (refl, h)
 
 -- ---- reader and writer undo each other
 
@@ -116,11 +106,3 @@ read-good k e h = good-read k (recordBytes e k) e (record { epoch = h; bytes = r
 
 pub read-blank : (k : ℕ) → readRecord k blankRecord ≡ blank
 read-blank k = blank-read k blankRecord refl
-
-pub read-write-good : (k e : ℕ) → isEpoch e ≡ true → readRecord k (writeRecord k (good e)) ≡ good e
-unfolding writeRecord
-read-write-good k e h = read-good k e h
-
-pub read-write-blank : (k : ℕ) → readRecord k (writeRecord k blank) ≡ blank
-unfolding writeRecord
-read-write-blank k = read-blank k

@@ -3,6 +3,5 @@ pub mod SameLaws
 pub mod PartLaws
 pub mod SpliceLaws
 pub mod NestedLaws
-pub mod AllBytesLaws
 pub mod DifferingLaws
 pub mod LoopLaws

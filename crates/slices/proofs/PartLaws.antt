@@ -43,11 +43,6 @@ pub part-back : (x y : Bytes) (a l n : ℕ) → length x ≡ n → part (x ++ y)
 unfolding part
 part-back x y a l n h = ap (take l) (rw (← h) (drop-append-add x y a))
 
-pub part-behind : (x y : Bytes) (a l : ℕ) → length x ≤ a → part (x ++ y) a l ≡ part y (a - length x) l
-part-behind x y a l h =
-    let e : a ≡ length x + (a - length x) = omega arith in
-    ap (λ (i : ℕ). part (x ++ y) i l) e ∙ part-back x y (a - length x) l (length x) refl
-
 -- exactly what was appended
 pub part-first : (x y : Bytes) (l : ℕ) → length x ≡ l → part (x ++ y) 0 l ≡ x
 unfolding part

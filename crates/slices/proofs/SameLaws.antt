@@ -75,13 +75,6 @@ same-differs xs ys h = not-so (same xs ys) (λ e. h (same-true xs ys e))
 pub same-lengths : (xs ys : Bytes) → ¬ (length xs ≡ length ys) → same xs ys ≡ false
 same-lengths xs ys h = same-differs xs ys (λ e. h (ap length e))
 
-pub same-sym : (xs ys : Bytes) → same xs ys ≡ same ys xs
-same-sym xs ys = go (same xs ys) refl
-  where
-    go : (t : Bool) → same xs ys ≡ t → t ≡ same ys xs
-    go true e = sym (same-eq ys xs (sym (same-true xs ys e)))
-    go false e = sym (same-differs ys xs (λ k. same-false xs ys e (sym k)))
-
 -- fronts as long are compared by themselves
 pub same-append : (a b c d : Bytes) → length a ≡ length c → same (a ++ b) (c ++ d) ≡ same a c && same b d
 unfolding same

@@ -2,11 +2,11 @@
 use Prim.Native.Nat.{ℕ, _+_, _-_, _*_, _≤_, _<_}
 use mathlib.Core.Path.{_≡_, refl, sym, ap, ap₂, _∙_}
 use mathlib.Core.Logic.{_≢_}
-use mathlib.Core.List.{_++_, append-assoc, append-nil}
+use mathlib.Core.List.{_++_, append-assoc}
 use native.Mathlib.Omega.{arith}
 use native.Mathlib.Nat.{mul-le-mul-left}
 use native.Mathlib.Decide.{decLt}
-use lib.ListN.{length, take, drop, length-append, length-take, length-drop, drop-of-length-le}
+use lib.ListN.{length, take, drop, length-append, length-take, length-drop}
 use lib.Seq.{length-take-le, take-at, drop-at, take-append-le, drop-append-add, take-take, drop-drop}
 use borrow.Rule.Slice.PartMut.{putMid}
 use Rattle.slices.specs.Parts.{Bytes, part, spliced}
@@ -61,13 +61,6 @@ module _ (b : Bytes) (a : ℕ) (v : Bytes) (fits : a + length v ≤ length b) wh
 pub spliced-back : (b : Bytes) (a l : ℕ) → a + l ≤ length b → spliced b a (part b a l) ≡ b
 unfolding spliced
 spliced-back b a l h = rw (length-part b a l h) (sym (part-split b a l))
-
--- a whole buffer written anew
-pub spliced-whole : (b v : Bytes) → length v ≡ length b → spliced b 0 v ≡ v
-unfolding spliced
-spliced-whole b v e =
-    let k : length b ≤ 0 + length v = omega arith in
-    rw (drop-of-length-le b k) (append-nil v)
 
 -- what follows a front that is written already
 pub spliced-next : (x y v : Bytes) (a : ℕ) → length x ≡ a → spliced (x ++ y) a v ≡ x ++ (v ++ drop (length v) y)
