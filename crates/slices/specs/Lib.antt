@@ -1,4 +1,3 @@
 -- What the contracts of `slices` cite.
 pub mod Parts
 pub mod Same
-pub mod AllBytes
