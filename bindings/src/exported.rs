@@ -3,7 +3,7 @@
 
 /// A row of the planner's table, as the archive lays it out.
 #[repr(C)]
-#[derive(Clone, Copy)]
+#[derive(Clone, Copy, Debug, Default, PartialEq, Eq)]
 pub struct RawRow {
     pub readable: u8,
     pub length: u32,

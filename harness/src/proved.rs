@@ -7,47 +7,11 @@
 pub mod clusters;
 pub mod images;
 
-/// A slice is passed as its pointer and then its length.
-mod exported {
-    extern "C" {
-        pub fn rope_checksum(bytes: *const u8, len: usize) -> u32;
-        pub fn rope_write_number(column: *mut u8, len: usize, number: u64);
-        pub fn rope_read_column(column: *const u8, len: usize, value: *mut u64) -> u8;
-        pub fn rope_write_header(
-            header: *mut u8,
-            len: usize,
-            replica: usize,
-            n: usize,
-            m: usize,
-        ) -> u8;
-        pub fn rope_write_record(record: *mut u8, len: usize, epoch: u32, index: u32) -> u8;
-        pub fn rope_write_blank_record(record: *mut u8, len: usize) -> u8;
-        pub fn rope_write_entry(
-            entry: *mut u8,
-            len: usize,
-            epoch: u32,
-            index: u32,
-            payload: *const u8,
-            payload_len: usize,
-        ) -> u8;
-        pub fn rope_write_fresh_entry(entry: *mut u8, len: usize) -> u8;
-        pub fn rope_is_header(
-            header: *const u8,
-            len: usize,
-            replica: usize,
-            n: usize,
-            m: usize,
-        ) -> u8;
-        pub fn rope_judge_record(record: *const u8, len: usize, index: u32, epoch: *mut u32) -> u8;
-        pub fn rope_judge_entry(
-            entry: *const u8,
-            len: usize,
-            index: u32,
-            epoch: *mut u32,
-            size: *mut usize,
-        ) -> u8;
-    }
-}
+// The very declarations that the Rust crate links.
+#[path = "../../bindings/src/exported.rs"]
+mod exported;
+
+use exported::no_such;
 
 /// What a writer did. Unless it wrote, every byte is as it was.
 #[derive(Clone, Copy, Debug, PartialEq, Eq)]
@@ -180,9 +144,4 @@ fn written(function: &str, code: u8) -> Written {
         3 => Written::WrongLength,
         code => no_such(function, code),
     }
-}
-
-/// A code that the contract rules out: the archive is not the one these declarations are for.
-fn no_such(function: &str, code: u8) -> ! {
-    panic!("{function} answered {code}, which its contract rules out")
 }

@@ -1,17 +1,10 @@
 //! A cluster: each call answers 0, or the refusal's number, and then nothing that was lent has
 //! changed.
 
+use super::exported;
 use crate::model;
 
-/// A replica's row in the planner's table.
-#[repr(C)]
-#[derive(Clone, Copy, Debug, Default, PartialEq, Eq)]
-pub struct ReplicaRow {
-    /// 1 if the replica is present and its image is readable, else 0.
-    pub readable: u8,
-    pub length: u32,
-    pub last_epoch: u32,
-}
+pub use exported::RawRow as ReplicaRow;
 
 /// The model's row, laid out for the proved call.
 impl From<model::ReplicaRow> for ReplicaRow {
@@ -43,52 +36,6 @@ impl From<u8> for ReplicaRow {
             length: byte.into(),
             last_epoch: byte.into(),
         }
-    }
-}
-
-/// A slice is passed as its pointer and then its length.
-mod exported {
-    use super::ReplicaRow;
-
-    extern "C" {
-        pub fn rope_plan(
-            cluster: *const u8,
-            len: usize,
-            n: usize,
-            m: usize,
-            leader: usize,
-            present: u32,
-            plan: *mut u8,
-            plan_len: usize,
-            rows: *mut ReplicaRow,
-            rows_len: usize,
-            status: *mut u8,
-            number: *mut usize,
-        ) -> u8;
-        pub fn rope_step(
-            cluster: *mut u8,
-            len: usize,
-            n: usize,
-            m: usize,
-            leader: usize,
-            present: u32,
-            status: *mut u8,
-            replica: *mut usize,
-            slot: *mut usize,
-            kind: *mut u8,
-        ) -> u8;
-        pub fn rope_run(
-            cluster: *mut u8,
-            len: usize,
-            n: usize,
-            m: usize,
-            leader: usize,
-            present: u32,
-            budget: u64,
-            status: *mut u8,
-            stores: *mut u64,
-            slot: *mut usize,
-        ) -> u8;
     }
 }
 

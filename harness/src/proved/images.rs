@@ -1,54 +1,7 @@
 //! One image: each call answers 0, or the refusal's number, and then nothing that was lent has
 //! changed. Only `payload` answers otherwise.
 
-/// A slice is passed as its pointer and then its length.
-mod exported {
-    extern "C" {
-        pub fn rope_format(image: *mut u8, len: usize, replica: usize, n: usize, m: usize) -> u8;
-        pub fn rope_append(
-            image: *mut u8,
-            len: usize,
-            replica: usize,
-            n: usize,
-            m: usize,
-            epoch: u32,
-            payload: *const u8,
-            payload_len: usize,
-            slot: *mut usize,
-        ) -> u8;
-        pub fn rope_read(
-            image: *const u8,
-            len: usize,
-            replica: usize,
-            n: usize,
-            m: usize,
-            epochs: *mut u32,
-            epochs_len: usize,
-            verdicts: *mut u8,
-            verdicts_len: usize,
-            used: *mut usize,
-        ) -> u8;
-        pub fn rope_has_payload(
-            image: *const u8,
-            len: usize,
-            replica: usize,
-            n: usize,
-            m: usize,
-            slot: usize,
-            has: *mut u8,
-        ) -> u8;
-        pub fn rope_payload(
-            image: *const u8,
-            len: usize,
-            replica: usize,
-            n: usize,
-            m: usize,
-            slot: usize,
-            at: *mut usize,
-            size: *mut usize,
-        ) -> u8;
-    }
-}
+use super::exported;
 
 /// Writes a fresh image over the whole lent buffer.
 pub fn format(image: &mut [u8], replica: usize, n: usize, m: usize) -> u8 {
