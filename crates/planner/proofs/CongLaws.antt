@@ -7,13 +7,14 @@ use lib.Dec.{eqb, ltb}
 use borrow.Author.Tests.{ltb-true}
 use Rattle.slices.proofs.SameLaws.{and-off}
 use Rattle.search.specs.Search.{lowest, count}
-use Rattle.search.proofs.SearchLaws.{lowest-le, lowest-cong}
+use Rattle.search.proofs.SearchLaws.{lowest-cong}
 use Rattle.search.proofs.CountLaws.{count-cong}
 use Rattle.image.specs.View.{View}
 use Rattle.image.specs.Read.{isWhole}
 use Rattle.planner.specs.Setting.{Setting}
 use Rattle.planner.specs.Rules.{isTruncate, isWait, answers, agrees, have, dontHave, donor, rule, end, firstWaiting}
 use Rattle.planner.specs.Plan.{ruleByte, planByte}
+use Rattle.planner.proofs.RuleLaws.{end-le}
 
 -- the views of the readable replicas agree at slot k
 pub record SameAt (n : ℕ) (U W : ℕ → View) (k : ℕ) : Type 0 where
@@ -72,14 +73,10 @@ module _ (S T : Setting) (U W : ℕ → View) (en : S .n ≡ T .n) (el : S .lead
     end-cong =
         rw l (lowest-cong (λ k. isTruncate (rule S U k)) (λ k. isTruncate (rule T W k)) (W (T .leader) .length) (λ k h. ap isTruncate (rule-cong k (same k h))))
 
-    end-le : end T W ≤ W (T .leader) .length
-    unfolding end
-    end-le = lowest-le (λ k. isTruncate (rule T W k)) (W (T .leader) .length)
-
     pub waiting-cong : firstWaiting S U ≡ firstWaiting T W
     unfolding firstWaiting
     waiting-cong =
-        rw end-cong (lowest-cong (λ k. isWait (rule S U k)) (λ k. isWait (rule T W k)) (end T W) (λ k h. ap isWait (rule-cong k (same k (omega (arith, end-le))))))
+        rw end-cong (lowest-cong (λ k. isWait (rule S U k)) (λ k. isWait (rule T W k)) (end T W) (λ k h. ap isWait (rule-cong k (same k (omega (arith, end-le T W))))))
 
     pub byte-cong : (k : ℕ) → planByte S U k ≡ planByte T W k
     unfolding planByte

@@ -10,7 +10,7 @@ use lib.ListN.{length, getD, take}
 use lib.Seq.{getD-take, length-take-le}
 use borrow.Author.Tests.{eq-eqb, ne-eqb, lt-ltb, le-ltb}
 use Rattle.search.specs.Search.{lowest, listed}
-use Rattle.search.proofs.SearchLaws.{lowest-le, lowest-passes, lowest-cong}
+use Rattle.search.proofs.SearchLaws.{lowest-passes, lowest-cong}
 use Rattle.search.proofs.ListedLaws.{length-listed, getD-listed, listed-ext, listed-cong}
 use Rattle.image.specs.View.{Condition, Unused, Whole, RecordLost, Faulty, Lost, View}
 use Rattle.image.specs.Seen.{conditionNumber}
@@ -18,6 +18,7 @@ use Rattle.planner.specs.Setting.{Setting}
 use Rattle.planner.specs.Rules.{isTruncate, isWait, Rule, Keep, Fetch, Truncate, Wait, rule, donor, end, firstWaiting}
 use Rattle.planner.specs.Plan.{keptByte, ruleByte, planByte, planBytes}
 use Rattle.planner.specs.Survey.{conditionFrom, surveySetting, surveyViews, slotByte, Walked, markedByte, Surveyed, SurveyOf, Planned}
+use Rattle.planner.proofs.RuleLaws.{end-le}
 use Rattle.planner.proofs.CongLaws.{SameAt, end-cong, waiting-cong, byte-cong}
 
 take-listed : (b m : ℕ) (f : ℕ → ℕ) → m ≤ b → take m (listed b f) ≡ listed m f
@@ -46,9 +47,8 @@ wait-byte Truncate a d = refl
 wait-byte Wait a d = refl
 
 module _ (S : Setting) (W : ℕ → View) (kept : List ℕ) (final : ℕ) (f : final ≡ end S W) (w : Walked S W kept final) where
-  end-le : final ≤ W (S .leader) .length
-  unfolding end
-  end-le = omega (arith, f, lowest-le (λ k. isTruncate (rule S W k)) (W (S .leader) .length))
+  final-le : final ≤ W (S .leader) .length
+  final-le = omega (arith, f, end-le S W)
 
   end-cuts : final < W (S .leader) .length → isTruncate (rule S W final) ≡ true
   unfolding end
@@ -60,7 +60,7 @@ module _ (S : Setting) (W : ℕ → View) (kept : List ℕ) (final : ℕ) (f : f
     where
       go : Dec (k < final) → Dec (k < W (S .leader) .length) → Dec (k ≡ final) → markedByte kept final (W (S .leader) .length) k ≡ planByte S W k
       go (yes a) (yes b) q = rw (lt-ltb k final a, lt-ltb k (W (S .leader) .length) b, sym f, le-ltb final k (omega arith)) (w .passed k a)
-      go (yes a) (no b) q = absurd (omega (arith, end-le))
+      go (yes a) (no b) q = absurd (omega (arith, final-le))
       go (no a) (yes b) (yes q) =
           rw (le-ltb k final (omega arith), lt-ltb k (W (S .leader) .length) b, eq-eqb k final q, sym f, le-ltb final k (omega arith), q)
           (sym (cut-byte (rule S W final) (W (S .leader) .condition final) (donor S W final) (end-cuts (omega arith))))
@@ -75,7 +75,7 @@ module _ (S : Setting) (W : ℕ → View) (kept : List ℕ) (final : ℕ) (f : f
     where
       at : (k : ℕ) → k < final → eqb (getD bytes k 0) 3 ≡ isWait (rule S W k)
       at k l =
-          rw (e, getD-listed 64 (planByte S W) k 0 (omega (arith, end-le)), lt-ltb k (W (S .leader) .length) (omega (arith, end-le)), sym f, le-ltb final k (omega arith))
+          rw (e, getD-listed 64 (planByte S W) k 0 (omega (arith, final-le)), lt-ltb k (W (S .leader) .length) (omega (arith, final-le)), sym f, le-ltb final k (omega arith))
           (wait-byte (rule S W k) (W (S .leader) .condition k) (donor S W k))
 
 -- ---- from the numbers to the views
@@ -89,9 +89,8 @@ number-from Faulty = refl
 number-from Lost = refl
 
 pub survey-end-le : (n leader l readable : ℕ) (conditions epochs : List ℕ) {final : ℕ} → final ≡ end (surveySetting n leader) (surveyViews l readable conditions epochs) → final ≤ l
-unfolding end surveySetting surveyViews
-survey-end-le n leader l readable conditions epochs f =
-    omega (arith, f, lowest-le (λ k. isTruncate (rule (surveySetting n leader) (surveyViews l readable conditions epochs) k)) l)
+unfolding surveySetting surveyViews
+survey-end-le n leader l readable conditions epochs f = omega (arith, f, end-le (surveySetting n leader) (surveyViews l readable conditions epochs))
 
 same-at : (n m readable l : ℕ) (lengths conditions epochs : List ℕ) (W : ℕ → View) → Surveyed n m W readable lengths conditions epochs
     → (k : ℕ) → k < m → SameAt n (surveyViews l readable conditions epochs) W k

@@ -10,7 +10,7 @@ use lib.ListN.{length, getD, set, replicate, length-set}
 use lib.Seq.{getD-set-same, getD-set-other}
 use borrow.Author.Tests.{eq-eqb, ne-eqb, lt-ltb, le-ltb, ltb-true, ltb-false}
 use Rattle.search.specs.Search.{lowest, count, listed}
-use Rattle.search.proofs.SearchLaws.{lowest-is}
+use Rattle.search.proofs.SearchLaws.{lowest-is, lowest-le}
 use Rattle.search.proofs.ListedLaws.{listed-ext}
 use Rattle.image.specs.View.{View}
 use Rattle.planner.specs.Setting.{Setting}
@@ -18,6 +18,11 @@ use Rattle.planner.specs.Rules.{mayTruncate, isFaulty, isTruncate, have,
 use Rattle.planner.specs.Plan.{keptByte, ruleByte}
 use Rattle.planner.specs.Survey.{conditionFrom, surveySetting, surveyViews, slotByte, Walked, markedByte}
 use Rattle.planner.proofs.SurveyLaws.{faulty-number}
+
+-- the end lies within the leader's log
+pub end-le : (S : Setting) (W : ℕ → View) → end S W ≤ W (S .leader) .length
+unfolding end
+end-le S W = lowest-le (λ k. isTruncate (rule S W k)) (W (S .leader) .length)
 
 -- ---- one slot
 

@@ -29,7 +29,7 @@ use Rattle.planner.proofs.SetLaws.{set-none, set-in, set-out, has-set}
 
 -- ---- where an image stands in the cluster
 
-size-eq : (m : ℕ) → 28 + 274 * m ≡ imageSize m
+pub size-eq : (m : ℕ) → 28 + 274 * m ≡ imageSize m
 size-eq m = omega (arith, size-is m)
 
 pub start-is : (m c : ℕ) → (28 + 274 * m) * c ≡ imageAt m c

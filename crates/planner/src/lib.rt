@@ -4,10 +4,10 @@ ghost use Rattle.planner.specs.PlanRows.{PlanRows};
 
 pub mod sets; // sets.rt: sets of replicas as words
 pub mod survey; // survey.rt: what is seen of each replica, in numbers
-pub mod rules; // rules.rt: what the replicas answer, and the plan of each slot
+mod rules; // rules.rt: what the replicas answer, and the plan of each slot
 pub mod cluster; // cluster.rt: a cluster's refusals, and its survey
 pub mod plan; // plan.rt: the plan of a survey, and the call of the planner
-pub mod rows; // rows.rt: the rows of the planner's table
+mod rows; // rows.rt: the rows of the planner's table
 
 // Ready with the final length, waiting with the number of the lowest waiting slot, or the refusal.
 pub enum PlanAnswer {

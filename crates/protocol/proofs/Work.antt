@@ -11,7 +11,8 @@ use Rattle.search.proofs.CountLaws.{sum-bound, count-le}
 use Rattle.image.specs.Cluster.{Cluster}
 use Rattle.image.specs.View.{View}
 use Rattle.planner.specs.Setting.{Setting, viewsOf}
-use Rattle.planner.specs.Rules.{isTruncate, rule, end}
+use Rattle.planner.specs.Rules.{end}
+use Rattle.planner.proofs.RuleLaws.{end-le}
 use Rattle.protocol.specs.Recovery.{differs, firstDiffering, unlike}
 use Rattle.protocol.proofs.Slots.{leader-fits}
 use Rattle.protocol.proofs.Moves.{isComplete}
@@ -43,10 +44,6 @@ work S F = sum (weight S F) (S .n)
 differing-le : (S : Setting) (W : ℕ → View) (c : ℕ) → firstDiffering S W c ≤ W c .length
 unfolding firstDiffering
 differing-le S W c = lowest-le (differs S W c) (W c .length)
-
-end-le : (S : Setting) (W : ℕ → View) → end S W ≤ W (S .leader) .length
-unfolding end
-end-le S W = lowest-le (λ k. isTruncate (rule S W k)) (W (S .leader) .length)
 
 leader-bound : (S : Setting) (F : Cluster) → leaderWork S (viewsOf S F) ≤ 3 * S .m
 unfolding leaderWork

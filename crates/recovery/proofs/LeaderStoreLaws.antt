@@ -16,7 +16,8 @@ use Rattle.protocol.specs.Store.{Store, storeEntry, storeRecord, storeBlank}
 use Rattle.protocol.specs.Recovery.{_or_, ifBelow, leaderStore}
 use Rattle.protocol.proofs.ChainLaws.{or-first, or-second, below-some, above-none}
 use Rattle.recovery.specs.Look.{Looked}
-use Rattle.recovery.proofs.LookLaws.{lost-found, end-within, fetch-found, donor-found}
+use Rattle.recovery.proofs.LookLaws.{lost-found, fetch-found, donor-found}
+use Rattle.planner.proofs.RuleLaws.{end-le}
 
 module _ (S : Setting) (W : ℕ → View) (leader : ℕ) where
   abbrev len : ℕ
@@ -50,7 +51,7 @@ module _ (S : Setting) (W : ℕ → View) (leader : ℕ) where
     fetch-is e = e ∙ rw (p .end-is) (fetch-found S W p fits)
 
     lost-is : {f : ℕ} → f ≡ lowest (λ k. eqb (getD conditions (leader * 64 + k) 0) 2) final → f ≡ lost
-    lost-is e = e ∙ rw (p .end-is) (lost-found x (end S W) (let a = end-within S W in let b = fits in omega arith))
+    lost-is e = e ∙ rw (p .end-is) (lost-found x (end S W) (let a = end-le S W in let b = fits in omega arith))
 
     pub leader-blanks : final < length → some (storeBlank leader (length - 1)) ≡ leaderStore S W
     leader-blanks h =
@@ -83,7 +84,7 @@ module _ (S : Setting) (W : ℕ → View) (leader : ℕ) where
             let a = lost-is i in
             let b = p .end-is in
             let l : lost < end S W = omega arith in
-            let w = end-within S W in
+            let w = end-le S W in
             let v = fits in
             let q = x .epoch-is lost (omega arith) in
             rw (whole, a, q) (or-second one (two or three) _ no-blank (or-second two three _ no-fetch (sym (below-some lost (end S W) _ l))))

@@ -13,6 +13,7 @@ use Rattle.image.specs.View.{Condition, Unused, Whole, RecordLost, Faulty, Lost
 use Rattle.image.specs.Seen.{conditionNumber}
 use Rattle.image.proofs.ScannedLaws.{taken-at}
 use Rattle.planner.specs.Setting.{Setting}
+use Rattle.planner.proofs.RuleLaws.{end-le}
 use Rattle.planner.specs.Rules.{isFaulty, isRecordLost, isTruncate, Rule, Keep, Fetch, Truncate, Wait, isFetch, rule, donor, end}
 use Rattle.planner.specs.Plan.{keptByte, ruleByte, planByte, planBytes}
 use Rattle.planner.specs.Survey.{Planned}
@@ -69,15 +70,11 @@ donor-byte Truncate a d e = absurd (let z : _≡_ {A = ℕ} 0 1 = cc in omega ar
 donor-byte Wait a d e = absurd (let z : _≡_ {A = ℕ} 0 1 = cc in omega arith)
 
 module _ (S : Setting) (W : ℕ → View) where
-  pub end-within : end S W ≤ W (S .leader) .length
-  unfolding end
-  end-within = lowest-le (λ k. isTruncate (rule S W k)) (W (S .leader) .length)
-
   module _ {bytes : List ℕ} {final waiting : ℕ} (p : Planned S W bytes final waiting) (fits : W (S .leader) .length ≤ S .m) where
     byte-at : (k : ℕ) → k < end S W → getD bytes k 0 ≡ ruleByte (rule S W k) (W (S .leader) .condition k) (donor S W k)
     unfolding planBytes planByte
     byte-at k h =
-        let l = end-within in
+        let l = end-le S W in
         taken-at (S .m) (planByte S W) bytes (p .bytes-are) k (omega arith)
         ∙ rw (lt-ltb k (W (S .leader) .length) (omega arith), le-ltb (end S W) k (omega arith))
 

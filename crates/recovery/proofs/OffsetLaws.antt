@@ -1,18 +1,11 @@
 -- Where records and entries stand in the cluster's bytes, as the code works it out.
-use Prim.Native.Nat.{ℕ, suc, _+_, _*_, _≤_, _<_}
-use mathlib.Core.Path.{_≡_, ap, _∙_}
+use Prim.Native.Nat.{ℕ, _+_, _*_, _≤_, _<_}
+use mathlib.Core.Path.{_≡_}
 use native.Mathlib.Omega.{arith}
-use Rattle.image.specs.Image.{imageSize, recordAt, entryAt}
+use Rattle.image.specs.Image.{recordAt, entryAt}
 use Rattle.image.specs.Cluster.{imageAt}
-use Rattle.image.proofs.DecodeLaws.{size-is, record-fits, entry-fits}
+use Rattle.image.proofs.DecodeLaws.{record-fits, entry-fits}
 use Rattle.recovery.specs.NextStore.{ImageFits}
-
-pub size-code : (m : ℕ) → 28 + 274 * m ≡ imageSize m
-size-code m = omega (arith, size-is m)
-
-pub image-code : (m c : ℕ) → (28 + 274 * m) * c ≡ imageAt m c
-unfolding imageAt
-image-code m c = ap (λ (x : ℕ). x * c) (size-code m)
 
 pub record-code : (k : ℕ) → 28 + 34 * k ≡ recordAt k
 unfolding recordAt

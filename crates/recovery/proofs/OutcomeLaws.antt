@@ -30,7 +30,7 @@ use Rattle.recovery.specs.declared.Outlook.{Outlook}
 use Rattle.recovery.specs.declared.Outlook.the-variants as outlook
 use Rattle.protocol.proofs.Due.{due-facts}
 use Rattle.protocol.proofs.Keeps.{due-target, due-slot, due-donor}
-use Rattle.recovery.proofs.OffsetLaws.{image-code}
+use Rattle.planner.proofs.SeenLaws.{start-is}
 use Rattle.demand3.proofs.CallLaws.{accepted, step-refused, step-kept, run-refused, run-kept, step-bytes, run-bytes}
 use Rattle.demand3.proofs.AfterCalls.{waiting-none}
 use Rattle.demand3.proofs.StepCountLaws.{steps-still}
@@ -79,7 +79,7 @@ fits-more m a b (Blank c k) h f = (f .0, omega arith)
 
 -- a replica's number is not too large
 pub replica-few : (m c : ℕ) → ImageFits m 18446744073709551615 c → c + 1 < 18446744073709551616
-replica-few m c f = omega (arith, image-code m c)
+replica-few m c f = omega (arith, start-is m c)
 
 -- ---- the store by its numbers
 

@@ -27,7 +27,7 @@ use Rattle.recovery.specs.Look.{InRange}
 use Rattle.recovery.specs.Answers.{OutlookIs}
 use Rattle.recovery.specs.declared.NextStore.{NextStore}
 use Rattle.recovery.specs.declared.Outlook.the-variants as outlook
-use Rattle.recovery.proofs.LookLaws.{end-within}
+use Rattle.planner.proofs.RuleLaws.{end-le}
 use Rattle.recovery.proofs.FollowerLaws.{log-within}
 use Rattle.demand3.proofs.CallLaws.{accepted}
 
@@ -69,7 +69,7 @@ module _ (N : Numbers) (b : Bytes) (e : refusalIn N b ≡ 0) {readable : ℕ} {l
     unfolding settingOf
     end-fits =
         let a = p .end-is in
-        let d = end-within (named N) (viewsIn (named N) b) in
+        let d = end-le (named N) (viewsIn (named N) b) in
         let l = log-within (named N) b (named N .leader) in
         let k = s .slots-fit in
         omega arith

@@ -1,9 +1,9 @@
 // Recovery: the first store still outstanding, steps and runs.
 ghost use Rattle.recovery.specs.PlanCall.{PlanCall};
 
-pub mod store; // store.rt: a store made on the cluster's bytes
-pub mod next; // next.rt: the first store still outstanding, of what is seen of the replicas
-pub mod note; // note.rt: what a survey says once a store has been made
+mod store; // store.rt: a store made on the cluster's bytes
+mod next; // next.rt: the first store still outstanding, of what is seen of the replicas
+mod note; // note.rt: what a survey says once a store has been made
 pub mod step; // step.rt: one step
 pub mod run; // run.rt: a run of steps
 
