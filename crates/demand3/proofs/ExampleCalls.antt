@@ -9,9 +9,10 @@ use Rattle.protocol.specs.StepBytes.{stepsBytes}
 use Rattle.demand3.specs.Interrupted.{old, new, torn, whole, interrupted}
 use Rattle.protocol.specs.Call.{plan, step, run, budgetOf, refusalOf}
 use Rattle.demand3.specs.CallList.{CallList, finished, refused, made}
-use Rattle.demand3.specs.Damaged.{five, noise, damagedCluster}
-use Rattle.demand3.specs.Played.{blankedOne, tornOne, fetchedOne, twoMore, lastStored, lastCluster, calls}
-use Rattle.demand3.proofs.ExampleComputed.{computed}
+use Rattle.example.specs.Damaged.{five, noise, damagedCluster}
+use Rattle.example.specs.Visited.{blankedOne, tornOne, fetchedOne, twoMore, lastStored, lastCluster}
+use Rattle.demand3.specs.Played.{calls}
+use Rattle.example.proofs.ComputedLaws.{computed}
 
 apart : {r k : ℕ} → r ≡ suc k → r ≡ 0 → ⊥
 apart p q = omega (arith, p, q)

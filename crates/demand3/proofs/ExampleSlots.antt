@@ -11,8 +11,9 @@ use Rattle.planner.specs.Setting.{settingOf}
 use Rattle.planner.specs.Rules.{majority}
 use Rattle.demand3.specs.Supposed.{DamagedSlot, undamaged, recordBad, entryBad, Damaged, Agree, held, committed, Supposed}
 use Rattle.protocol.specs.Call.{named}
-use Rattle.demand3.specs.Damaged.{five, payloadA, payloadC, noise, damagedCluster, heldSlots, histories}
-use Rattle.demand3.proofs.ExampleComputed.{computed}
+use Rattle.example.specs.Damaged.{five, payloadA, payloadC, noise, damagedCluster}
+use Rattle.demand3.specs.Histories.{heldSlots, histories}
+use Rattle.example.proofs.ComputedLaws.{computed}
 
 -- slot k of replica c, damaged
 abbrev Slot : ℕ → ℕ → Type 0

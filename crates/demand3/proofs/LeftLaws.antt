@@ -17,20 +17,17 @@ use Rattle.protocol.specs.Recovery.{next}
 use Rattle.protocol.specs.StepBytes.{nextIn, stepsBytes}
 use Rattle.demand3.specs.Interrupted.{Interrupted, old, new, torn, LeftBytes, whole, interrupted}
 use Rattle.protocol.proofs.Due.{due-facts}
-use Rattle.protocol.proofs.Reach.{Reach, here, made, tore, reach-on}
+use Rattle.protocol.proofs.Reach.{here, made, tore, reach-on}
 use Rattle.protocol.proofs.Runs.{reach-steps}
 use Rattle.protocol.proofs.Keeps.{due-target, due-slot}
 use Rattle.protocol.proofs.StepLaws.{next-means, steps-mean}
+use Rattle.protocol.proofs.Reached.{Reached, steps-reached}
 use Rattle.protocol.proofs.Reach as reach
 
 module _ (S : Setting) (low : S .leader < S .n) where
   open Setting S using (n, m)
 
-  pub record Reached (b a : Bytes) : Type 0 where
-    pub size : length a ≡ imageAt m n
-    pub reach : Reach S (decode n m b) (decode n m a)
-
-  interrupted-reach : {s : Store} {a : Bytes} (b : Bytes) → length b ≡ imageAt m n → next S (decode n m b) ≡ some s → Interrupted S b s a → Reached b a
+  interrupted-reach : {s : Store} {a : Bytes} (b : Bytes) → length b ≡ imageAt m n → next S (decode n m b) ≡ some s → Interrupted S b s a → Reached S b a
   unfolding storeReplica storeSlot
   interrupted-reach b size e old = record { size = size; reach = here }
   interrupted-reach b size e (new {s}) =
@@ -46,11 +43,9 @@ module _ (S : Setting) (low : S .leader < S .n) where
         reach = rw w (tore (storeEntry c k d) e (reach.torn t) here);
       }
 
-  pub left-reach : {j : ℕ} {b a : Bytes} → length b ≡ imageAt m n → LeftBytes S j b a → Reached b a
+  pub left-reach : {j : ℕ} {b a : Bytes} → length b ≡ imageAt m n → LeftBytes S j b a → Reached S b a
   unfolding nextIn
-  left-reach {j} {b} size whole =
-      let w = steps-mean S low j b size in
-      record { size = w .size; reach = rw (w .is) (reach-steps S j (decode n m b)) }
+  left-reach {j} {b} size whole = steps-reached S low j b size
   left-reach {j} {b} size (interrupted i s l e x) =
       let w = steps-mean S low i b size in
       let v = interrupted-reach (stepsBytes S i b) (w .size) e x in

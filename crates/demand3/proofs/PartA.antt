@@ -14,12 +14,16 @@ use Rattle.demand3.specs.CallList.{Request, CallList}
 use Rattle.protocol.specs.Call.{plan, run, Numbers, named, refusalIn, refusalOf}
 use Rattle.protocol.specs.CallResult.{Result, refused, waiting, recovered, runResult, acceptedResult, callResult, callBytes, bound, withoutCount, runEnd, isSpent}
 use Rattle.demand3.specs.Claim.{PartA}
-use Rattle.demand3.proofs.CallLaws.{Standing, isRefused, isWaiting, isReady, standing, accepted, readable-view, run-bytes}
-use Rattle.demand3.proofs.AfterCalls.{After, unchanged}
+use Rattle.protocol.proofs.CallLaws.{Standing, isRefused, isWaiting, isReady, standing, accepted, run-bytes}
+use Rattle.demand3.proofs.ReadableLaws.{readable-view}
+use Rattle.protocol.proofs.Reached.{After}
+use Rattle.demand3.proofs.AfterCalls.{unchanged}
 use Rattle.demand3.proofs.AfterCalls as calls
 use Rattle.demand3.proofs.ResultLaws.{unspent-none}
-use Rattle.demand3.proofs.StillLaws.{Still, still-refused, still-waiting, Quiet, refused-quiet, waiting-quiet}
-use Rattle.demand3.proofs.RunLaws.{ready-run, ready-plan, runs}
+use Rattle.protocol.proofs.StillLaws.{Still, still-refused, still-waiting}
+use Rattle.demand3.proofs.QuietLaws.{Quiet, refused-quiet, waiting-quiet}
+use Rattle.protocol.proofs.ReadyLaws.{ready-run, ready-plan}
+use Rattle.demand3.proofs.RunLaws.{runs}
 
 same-still : (N : Numbers) (b : Bytes) (r : Result) → Still N b r → Quiet r → PartA N b b
 same-still N b r s q = record {

@@ -25,14 +25,15 @@ use Rattle.protocol.proofs.Reach.{reach-on}
 use Rattle.protocol.proofs.Runs.{reach-steps}
 use Rattle.demand3.proofs.Base.{held-elim, base-holding, base-payload, used-held}
 use Rattle.demand3.proofs.Committed.{WholeWith, kept-used, kept-entry, used-payload, stands, ready-first, waits-first}
-use Rattle.demand3.proofs.LeftLaws.{Reached}
+use Rattle.protocol.proofs.Reached.{Reached, After}
 use Rattle.protocol.proofs.StepLaws.{steps-mean}
-use Rattle.demand3.proofs.CallLaws.{accepted, planning-refused, planning-result, readable-view, run-bytes}
-use Rattle.demand3.proofs.AfterCalls.{After, calls-reach, unchanged}
+use Rattle.protocol.proofs.CallLaws.{accepted, planning-refused, planning-result, run-bytes}
+use Rattle.demand3.proofs.ReadableLaws.{readable-view}
+use Rattle.demand3.proofs.AfterCalls.{calls-reach, unchanged}
 use Rattle.demand3.proofs.AfterCalls as calls
 use Rattle.demand3.proofs.ResultLaws.{says-ready, says-recovered}
-use Rattle.demand3.proofs.StillLaws.{still-waiting}
-use Rattle.demand3.proofs.RunLaws.{ready-plan, ready-step}
+use Rattle.protocol.proofs.StillLaws.{still-waiting}
+use Rattle.protocol.proofs.ReadyLaws.{ready-plan, ready-step}
 use Rattle.demand3.proofs.PartA.{none-left}
 
 -- what an entry's bytes mean in the cluster
@@ -78,7 +79,7 @@ module _ (N : Numbers) (b : Bytes) (h : refusalIn N b ≡ 0 → ⊥) (H : ℕ �
       }
 
 -- it is not refused
-module _ (N : Numbers) (b₀ b : Bytes) (x : refusalIn N b₀ ≡ 0) (v : After N b₀ b) (low : named N .leader < named N .n) (r : Reached (named N) low b₀ b)
+module _ (N : Numbers) (b₀ b : Bytes) (x : refusalIn N b₀ ≡ 0) (v : After N b₀ b) (low : named N .leader < named N .n) (r : Reached (named N) b₀ b)
     (H : ℕ → History) (k e : ℕ) (p : Bytes) (s : Supposed (named N) (decode (N .n) (N .m) b₀) H k e p) where
   abbrev S : Setting
   S = named N

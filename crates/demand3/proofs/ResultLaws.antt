@@ -12,7 +12,7 @@ use Rattle.protocol.specs.Recovery.{isSome}
 use Rattle.protocol.specs.StepBytes.{nextIn, stepsBytes, storesBytes}
 use Rattle.protocol.specs.Call.{Call, plan, step, run, Numbers, named, refusalIn}
 use Rattle.protocol.specs.CallResult.{Result, refused, ready, recovered, stepResult, runResult, answered, readyResult, acceptedResult, countOf, isSpent, isStored}
-use Rattle.demand3.proofs.CallLaws.{not-refused, accepted}
+use Rattle.protocol.proofs.CallLaws.{not-refused, accepted}
 
 pub run-count : (c : ℕ) (o : Option Store) → countOf (runResult c o) ≡ c
 unfolding countOf runResult

@@ -9,29 +9,17 @@ use Rattle.planner.specs.Rules.{Ready, answer}
 use Rattle.planner.specs.Plan.{viewsIn}
 use Rattle.protocol.specs.Store.{Store}
 use Rattle.protocol.specs.StepBytes.{nextIn, stepsBytes, storesBytes}
-use Rattle.protocol.specs.Call.{step, run, Numbers, named, refusalIn}
-use Rattle.protocol.specs.CallResult.{refused, waiting, ready, spent, stepResult, runResult, answered, readyResult, callResult, planning, isSpent, isStored}
+use Rattle.protocol.specs.Call.{run, Numbers, named, refusalIn}
+use Rattle.protocol.specs.CallResult.{refused, waiting, spent, runResult, callResult, isSpent, isStored}
 use Rattle.demand3.specs.Claim.{Runs}
-use Rattle.demand3.proofs.CallLaws.{Standing, isRefused, isWaiting, isReady, standing, planning-result, step-result, run-result, run-bytes}
-use Rattle.demand3.proofs.AfterCalls.{Unsupposed}
-use Rattle.demand3.proofs.StepCountLaws.{few}
+use Rattle.protocol.proofs.CallLaws.{Standing, isRefused, isWaiting, isReady, standing, run-bytes}
+use Rattle.protocol.proofs.Reached.{Unsupposed, after-run}
+use Rattle.protocol.proofs.StepCountLaws.{few}
 use Rattle.demand3.proofs.ResultLaws.{run-count, run-spent, step-stored}
-use Rattle.demand3.proofs.UncutLaws.{after-run, after-none}
-use Rattle.demand3.proofs.StillLaws.{still-refused, still-waiting, refused-quiet, waiting-quiet, runs-still}
-
--- ---- the plan is ready
-module _ (N : Numbers) (b : Bytes) (e : refusalIn N b ≡ 0) (l : ℕ) (x : answer (named N) (viewsIn (named N) b) ≡ Ready l) where
-  pub ready-run : (j : ℕ) → callResult N (run j) b ≡ runResult (storesBytes (named N) j b) (nextIn (named N) (stepsBytes (named N) j b))
-  unfolding answered
-  ready-run j = run-result N b e j ∙ rw x
-
-  pub ready-step : callResult N step b ≡ stepResult (nextIn (named N) b)
-  unfolding answered
-  ready-step = step-result N b e ∙ rw x
-
-  pub ready-plan : callResult N (planning N) b ≡ ready l
-  unfolding readyResult
-  ready-plan = planning-result N b e ∙ rw x
+use Rattle.demand3.proofs.UncutLaws.{after-none}
+use Rattle.protocol.proofs.StillLaws.{still-refused, still-waiting}
+use Rattle.protocol.proofs.ReadyLaws.{ready-run, ready-step}
+use Rattle.demand3.proofs.QuietLaws.{refused-quiet, waiting-quiet, runs-still}
 
 module _ (N : Numbers) (b : Bytes) (e : refusalIn N b ≡ 0) (l : ℕ) (x : answer (named N) (viewsIn (named N) b) ≡ Ready l) where
   facts : Unsupposed (named N) b b

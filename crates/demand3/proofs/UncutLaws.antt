@@ -7,20 +7,16 @@ use Rattle.protocol.specs.Recovery.{after}
 use Rattle.protocol.specs.StepBytes.{stepsBytes}
 use Rattle.demand3.specs.Interrupted.{whole}
 use Rattle.protocol.specs.Call.{Call, plan, step, run, Numbers, named, budgetOf, refusalIn, refusalOf}
-use Rattle.demand3.specs.CallList.{finished, made}
+use Rattle.demand3.specs.CallList.{finished}
 use Rattle.protocol.specs.CallResult.{refused, callResult, callBytes}
 use Rattle.demand3.specs.Claim.{Uncut}
-use Rattle.demand3.proofs.CallLaws.{call-accepted, refused-result, refused-bytes, made-result, made-bytes, run-kept, step-kept, run-bytes, step-bytes}
-use Rattle.demand3.proofs.AfterCalls.{After}
+use Rattle.protocol.proofs.CallLaws.{call-accepted, refused-result, refused-bytes, made-result, made-bytes, run-kept, step-kept, run-bytes, step-bytes}
+use Rattle.protocol.proofs.Reached.{After, after-run}
 use Rattle.demand3.proofs.AfterCalls as calls
-use Rattle.demand3.proofs.StepCountLaws.{steps-suc}
+use Rattle.protocol.proofs.StepCountLaws.{steps-suc}
 use Rattle.demand3.proofs.ResultLaws.{never}
 
 -- ---- what so many steps leave
-pub after-run : (N : Numbers) (b : Bytes) → refusalIn N b ≡ 0 → (j : ℕ) → After N b (stepsBytes (named N) j b)
-unfolding refusalOf budgetOf
-after-run N b e j = calls.after N e (made (run j) e whole finished)
-
 pub after-none : (N : Numbers) (b : Bytes) → refusalIn N b ≡ 0 → After N b b
 after-none N b e = calls.after N e finished
 

@@ -5,5 +5,5 @@ pub mod Supposed
 pub mod Before
 pub mod Claim
 pub mod Demand3
-pub mod Damaged
+pub mod Histories
 pub mod Played

@@ -1,39 +1,16 @@
 -- The claim of demand 3 is about something: all that it supposes holds of a damaged cluster, and a list of calls among power failures is played from it.
-use Prim.Native.Nat.{_+_}
 use mathlib.Core.Path.{_≡_}
 use mathlib.Core.List.{List, [], _∷_}
-use Rattle.slices.specs.Parts.{Bytes, spliced}
-use Rattle.image.specs.Image.{entryAt}
-use Rattle.image.specs.Cluster.{imageAt, decode}
+use Rattle.image.specs.Cluster.{decode}
 use Rattle.planner.specs.Plan.{clusterRefusal}
-use Rattle.protocol.specs.Store.{storeEntry, storeBlank}
-use Rattle.protocol.specs.StepBytes.{stepsBytes, afterStoreBytes}
 use Rattle.demand3.specs.Supposed.{Supposed}
 use Rattle.protocol.specs.Call.{Call, plan, step, run, named}
 use Rattle.demand3.specs.CallList.{Request, CallList}
 use Rattle.demand3.specs.Claim.{PartA, PartB}
 use Rattle.protocol.specs.CallResult.{callResult, recovered, spent}
-use Rattle.demand3.specs.Damaged.{five, payloadA, noise, damagedCluster, histories}
-
--- the clusters on the way: a record blanked, noise in the leader's first entry, that entry fetched, two stores more, then all but the last
--- and the last
-unfoldable pub blankedOne : Bytes
-blankedOne = afterStoreBytes 3 (storeBlank 0 2) damagedCluster
-
-unfoldable pub tornOne : Bytes
-tornOne = spliced blankedOne (imageAt 3 0 + entryAt 3 0) noise
-
-unfoldable pub fetchedOne : Bytes
-fetchedOne = stepsBytes (named five) 1 tornOne
-
-unfoldable pub twoMore : Bytes
-twoMore = stepsBytes (named five) 2 fetchedOne
-
-unfoldable pub lastStored : Bytes
-lastStored = afterStoreBytes 3 (storeEntry 3 1 0) (stepsBytes (named five) 3 twoMore)
-
-unfoldable pub lastCluster : Bytes
-lastCluster = stepsBytes (named five) 45 lastStored
+use Rattle.example.specs.Damaged.{five, payloadA, damagedCluster}
+use Rattle.example.specs.Visited.{fetchedOne, lastStored, lastCluster}
+use Rattle.demand3.specs.Histories.{histories}
 
 -- a call with the numbers of the five
 abbrev pub asked : Call → Request

@@ -1,7 +1,9 @@
-// One image: formatted, appended to, read, and asked for a payload.
-pub mod view; // view.rt: what is seen of an image, and its refusals
-pub mod read; // read.rt: epochs and verdicts for the caller, and a slot's payload
-pub mod append; // append.rt: fresh images and appending
+// One image: what it means, its verdicts and refusals, and what appending does to it. The code is `view`'s, `read`'s and `append`'s.
+ghost use Rattle.image.specs.LayoutClaim.{LayoutClaim};
+ghost use Rattle.image.specs.RefusalClaim.{RefusalClaim};
+ghost use Rattle.image.specs.ReadingClaim.{ReadingClaim};
+ghost use Rattle.image.specs.AppendClaim.{AppendClaim};
+ghost use Rattle.image.specs.LastEntry.{LastEntry};
 
 // A fresh image was made, or the refusal.
 pub enum FormatAnswer {
@@ -27,3 +29,28 @@ pub enum PayloadAnswer {
     Absent,
     Refused(u8),
 }
+
+// The sizes of an image and of a cluster, and that taken apart they have every byte, as a theorem.
+pub fn layout_claim()
+    ensures { λ _. ⌜ LayoutClaim ⌝ }
+{}
+
+// Each refusal of an image has document 01's condition, and the lowest number that applies wins, as a theorem.
+pub fn refusal_claim()
+    ensures { λ _. ⌜ RefusalClaim ⌝ }
+{}
+
+// Length, epochs, verdicts and payloads are what document 01's sentences say, as a theorem.
+pub fn reading_claim()
+    ensures { λ _. ⌜ ReadingClaim ⌝ }
+{}
+
+// What appending does to an image, as a theorem.
+pub fn append_claim()
+    ensures { λ _. ⌜ AppendClaim ⌝ }
+{}
+
+// A torn append and a stored entry that was damaged leave the same image: at the last slot no reader of one image can tell them apart.
+pub fn last_entry_claim()
+    ensures { λ _. ⌜ LastEntry ⌝ }
+{}

@@ -1,13 +1,7 @@
-// The planner: what the replicas answer about each damaged slot of the leader, and what is to be done about it.
+// The planner: what the replicas answer about each damaged slot of the leader, and what is to be done about it. The code is `survey`'s,
+// `decide`'s, `tabulate`'s and `plan`'s.
 ghost use Rattle.planner.specs.AskingClaim.{AskingClaim};
 ghost use Rattle.planner.specs.PlanRows.{PlanRows};
-
-pub mod sets; // sets.rt: sets of replicas as words
-pub mod survey; // survey.rt: what is seen of each replica, in numbers
-mod rules; // rules.rt: what the replicas answer, and the plan of each slot
-pub mod cluster; // cluster.rt: a cluster's refusals, and its survey
-pub mod plan; // plan.rt: the plan of a survey, and the call of the planner
-mod rows; // rows.rt: the rows of the planner's table
 
 // Ready with the final length, waiting with the number of the lowest waiting slot, or the refusal.
 pub enum PlanAnswer {
@@ -22,6 +16,15 @@ pub struct ReplicaRow {
     pub readable: u8,
     pub length: u32,
     pub last_epoch: u32,
+}
+
+// The readable set; and for each readable replica the length of its log, and the condition's number and the epoch of each
+// slot. Slot k of replica c stands at c * 64 + k.
+pub struct Survey {
+    pub readable: u32,
+    pub lengths: [usize; 7],
+    pub conditions: [u8; 448],
+    pub epochs: [u32; 448],
 }
 
 // Document 01's starred places about the rules.

@@ -25,3 +25,8 @@ pub mod Always
 pub mod AtRest
 pub mod StepLaws
 pub mod UnlikeLaws
+pub mod CallLaws
+pub mod StepCountLaws
+pub mod Reached
+pub mod StillLaws
+pub mod ReadyLaws

@@ -13,7 +13,7 @@ use Rattle.image.specs.View.{View, Condition, Unused, Whole}
 use Rattle.image.specs.Seen.{conditionNumber}
 use Rattle.planner.specs.Setting.{Setting}
 use Rattle.planner.specs.Survey.{SurveyOf}
-use Rattle.planner.specs.declared.survey.Survey.{Survey}
+use Rattle.planner.specs.declared.Survey.{Survey}
 use Rattle.protocol.specs.Store.{storeEntry, storeRecord, storeBlank, storeReplica, storeSlot}
 use Rattle.recovery.specs.Note.{withSlot, seenAfter, viewsAfter, SlotSet, Noted}
 

@@ -7,7 +7,7 @@ use lib.ListN.{length}
 use Rattle.slices.specs.Parts.{Bytes}
 use Rattle.image.specs.Cluster.{decode}
 use Rattle.planner.specs.Setting.{settingOf}
-use Rattle.planner.specs.declared.survey.Survey.{Survey}
+use Rattle.planner.specs.declared.Survey.{Survey}
 use Rattle.protocol.specs.Store.{Store, storeReplica, storeSlot}
 use Rattle.protocol.specs.Recovery.{after, isSome}
 use Rattle.protocol.specs.StepBytes.{afterStoreBytes, nextIn}

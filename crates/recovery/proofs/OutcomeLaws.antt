@@ -31,11 +31,11 @@ use Rattle.recovery.specs.declared.Outlook.the-variants as outlook
 use Rattle.protocol.proofs.Due.{due-facts}
 use Rattle.protocol.proofs.Keeps.{due-target, due-slot, due-donor}
 use Rattle.planner.proofs.SeenLaws.{start-is}
-use Rattle.demand3.proofs.CallLaws.{accepted, step-refused, step-kept, run-refused, run-kept, step-bytes, run-bytes}
-use Rattle.demand3.proofs.AfterCalls.{waiting-none}
-use Rattle.demand3.proofs.StepCountLaws.{steps-still}
-use Rattle.demand3.proofs.StillLaws.{still-waiting}
-use Rattle.demand3.proofs.RunLaws.{ready-run, ready-step}
+use Rattle.protocol.proofs.CallLaws.{accepted, step-refused, step-kept, run-refused, run-kept, step-bytes, run-bytes}
+use Rattle.protocol.proofs.Reached.{waiting-none}
+use Rattle.protocol.proofs.StepCountLaws.{steps-still}
+use Rattle.protocol.proofs.StillLaws.{still-waiting}
+use Rattle.protocol.proofs.ReadyLaws.{ready-run, ready-step}
 
 -- ---- a store that is outstanding lies in the cluster
 

@@ -29,7 +29,7 @@ use Rattle.recovery.specs.declared.NextStore.{NextStore}
 use Rattle.recovery.specs.declared.Outlook.the-variants as outlook
 use Rattle.planner.proofs.RuleLaws.{end-le}
 use Rattle.recovery.proofs.FollowerLaws.{log-within}
-use Rattle.demand3.proofs.CallLaws.{accepted}
+use Rattle.protocol.proofs.CallLaws.{accepted}
 
 -- the leader's number is from 1
 pub from-one : (N : Numbers) (b : Bytes) → refusalIn N b ≡ 0 → 1 ≤ N .leader

@@ -10,7 +10,7 @@ use Rattle.image.specs.Cluster.{Cluster, decode}
 use Rattle.planner.specs.Setting.{Setting, settingOf, viewsOf}
 use Rattle.planner.specs.Rules.{answer, end}
 use Rattle.planner.specs.Plan.{viewsIn}
-use Rattle.planner.specs.declared.survey.Survey.{Survey}
+use Rattle.planner.specs.declared.Survey.{Survey}
 use Rattle.protocol.specs.Store.{Store, storeReplica, storeSlot, afterStore}
 use Rattle.protocol.specs.Recovery.{_or_, leaderStore, followersStore, isSome, ifReady, next, after}
 use Rattle.protocol.specs.StepBytes.{afterStoreBytes, nextIn}
@@ -21,7 +21,7 @@ use Rattle.protocol.proofs.Keeps.{due-target, due-slot}
 use Rattle.protocol.proofs.PlanLaws.{ready-intro}
 use Rattle.protocol.proofs.StepLaws.{next-means}
 use Rattle.protocol.proofs.Runs.{step-law}
-use Rattle.demand3.proofs.CallLaws.{accepted, refusal-same}
+use Rattle.protocol.proofs.CallLaws.{accepted, refusal-same}
 use Rattle.recovery.specs.Look.{RestBelow}
 use Rattle.recovery.specs.Note.{viewsAfter, Noted, ReadySurvey}
 use Rattle.recovery.proofs.OutcomeLaws.{slots-few}

@@ -15,8 +15,8 @@ use Rattle.protocol.specs.Call.{Numbers, named, refusalIn}
 use Rattle.protocol.specs.CallResult.{recovered, spent, runResult}
 use Rattle.recovery.specs.NextStore.{storeOf}
 use Rattle.recovery.specs.declared.NextStore.{NextStore}
-use Rattle.demand3.proofs.CallLaws.{accepted}
-use Rattle.demand3.proofs.UncutLaws.{after-run}
+use Rattle.protocol.proofs.CallLaws.{accepted}
+use Rattle.protocol.proofs.Reached.{after-run}
 
 -- from b₀, with a budget; so many made; the bytes as they are now, and the store that is outstanding
 pub record Underway (N : Numbers) (b₀ : Bytes) (budget made : ℕ) (b : Bytes) (t : NextStore) : Type 0 where

@@ -11,7 +11,7 @@ use Rattle.planner.specs.Setting.{Setting}
 use Rattle.planner.specs.Rules.{Ready, answer, end}
 use Rattle.planner.specs.Plan.{viewsIn}
 use Rattle.planner.specs.Survey.{SurveyOf}
-use Rattle.planner.specs.declared.survey.Survey.{Survey}
+use Rattle.planner.specs.declared.Survey.{Survey}
 use Rattle.protocol.specs.Store.{Store, storeEntry, storeRecord, storeBlank, storeReplica, storeSlot}
 use Rattle.protocol.specs.Call.{Numbers, named, refusalIn}
 use Rattle.recovery.specs.Answers.{numbers}

@@ -1,11 +1,6 @@
-// Recovery: the first store still outstanding, steps and runs.
+// Recovery: the answers of its calls, and what the code of a step and of a run is proved with. The code is `store`'s, `pick`'s, `note`'s,
+// `step`'s and `run`'s.
 ghost use Rattle.recovery.specs.PlanCall.{PlanCall};
-
-mod store; // store.rt: a store made on the cluster's bytes
-mod next; // next.rt: the first store still outstanding, of what is seen of the replicas
-mod note; // note.rt: what a survey says once a store has been made
-pub mod step; // step.rt: one step
-pub mod run; // run.rt: a run of steps
 
 // The first store still outstanding, if there is one. An entry: replica, slot, and the replica that it is copied from. A record:
 // replica, slot and epoch. A record blanked: replica and slot. Replicas and slots count from 0.

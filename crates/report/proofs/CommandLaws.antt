@@ -18,10 +18,10 @@ use Rattle.column.specs.declared.ColumnState.the-variants as column
 use Rattle.column.proofs.ColumnState.{the-type}
 use Rattle.column.proofs.StateLaws.{number-only-if}
 use Rattle.report.specs.Command.{numbered, chosen, commandOf, commandLine, presentOf}
-use Rattle.report.specs.declared.command.Present.{Present}
-use Rattle.report.specs.declared.command.Present.the-variants.{Set, All}
-use Rattle.report.specs.declared.command.Command.{Command}
-use Rattle.report.specs.declared.command.Command.the-variants.{Well, Malformed}
+use Rattle.report.specs.declared.Present.{Present}
+use Rattle.report.specs.declared.Present.the-variants.{Set, All}
+use Rattle.report.specs.declared.Command.{Command}
+use Rattle.report.specs.declared.Command.the-variants.{Well, Malformed}
 
 -- no number stands there
 abbrev pub Other : ColumnState → Type 0

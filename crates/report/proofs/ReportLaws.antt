@@ -20,9 +20,9 @@ use Rattle.planner.specs.Survey.{SurveyOf, Planned}
 use Rattle.report.specs.Command.{commandLine, presentOf}
 use Rattle.report.specs.Report.{refusedLine, clusterReport, commandReport, reportOf, headLine, slotLine, statusOf, numberOf, slotLines, planLines, Prints}
 use Rattle.report.specs.Lines.{lineFrom}
-use Rattle.report.specs.declared.command.Present.{Present}
-use Rattle.report.specs.declared.command.Command.{Command}
-use Rattle.report.specs.declared.command.Command.the-variants.{Well, Malformed}
+use Rattle.report.specs.declared.Present.{Present}
+use Rattle.report.specs.declared.Command.{Command}
+use Rattle.report.specs.declared.Command.the-variants.{Well, Malformed}
 
 pub prints : {x y page : Bytes} {count : ℕ} → x ≡ y → Prints x page count → Prints y page count
 prints e h = record { fits = h .fits; bytes = h .bytes ∙ e }

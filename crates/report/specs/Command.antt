@@ -7,10 +7,10 @@ use Rattle.slices.specs.Parts.{Bytes, part}
 use Rattle.column.specs.ColumnState.{columnState}
 use Rattle.column.specs.declared.ColumnState.{ColumnState}
 use Rattle.column.specs.declared.ColumnState.the-variants as column
-use Rattle.report.specs.declared.command.Present.{Present}
-use Rattle.report.specs.declared.command.Present.the-variants as present
-use Rattle.report.specs.declared.command.Command.{Command}
-use Rattle.report.specs.declared.command.Command.the-variants as command
+use Rattle.report.specs.declared.Present.{Present}
+use Rattle.report.specs.declared.Present.the-variants as present
+use Rattle.report.specs.declared.Command.{Command}
+use Rattle.report.specs.declared.Command.the-variants as command
 
 -- a column that has to hold a number
 unfoldable pub numbered : ColumnState → (ℕ → Command) → Command

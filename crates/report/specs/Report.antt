@@ -13,8 +13,8 @@ use Rattle.planner.specs.Setting.{Setting, settingOf}
 use Rattle.planner.specs.Rules.{Answer, Refused, Waiting, Ready, answer}
 use Rattle.planner.specs.Plan.{viewsIn, clusterRefusal, planByte}
 use Rattle.report.specs.Command.{commandLine, presentOf}
-use Rattle.report.specs.declared.command.Command.{Command}
-use Rattle.report.specs.declared.command.Command.the-variants.{Well, Malformed}
+use Rattle.report.specs.declared.Command.{Command}
+use Rattle.report.specs.declared.Command.the-variants.{Well, Malformed}
 
 -- the seven bytes `refused`
 abbrev pub refusedWord : Bytes

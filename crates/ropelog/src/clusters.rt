@@ -52,7 +52,7 @@ pub extern "C" fn rope_plan(
         × (now (number .exit) ≡ resultNumber (callResult (numbers n m leader present) (planCall (length (now (plan .entry))) (length (now (rows .entry)))) (now (cluster .entry))) (now (number .entry))) ⌝ }
 {
     hand_out(
-        planner::plan::plan_cluster(cluster, n, m, leader, present, plan, rows),
+        plan::plan_cluster(cluster, n, m, leader, present, plan, rows),
         status,
         number,
     )
@@ -79,7 +79,7 @@ pub extern "C" fn rope_step(
         × (now (slot .exit) ≡ resultSlot (callResult (numbers n m leader present) step (now (cluster .entry))) (now (slot .entry)))
         × (now (kind .exit) ≡ resultKind (callResult (numbers n m leader present) step (now (cluster .entry))) (now (kind .entry))) ⌝ }
 {
-    match recovery::step::step_cluster(cluster, n, m, leader, present) {
+    match step::step_cluster(cluster, n, m, leader, present) {
         recovery::StepAnswer::Stored(on, at, what) => {
             *status = 2;
             *replica = on;
@@ -120,7 +120,7 @@ pub extern "C" fn rope_run(
         × (now (stores .exit) ≡ resultStores (callResult (numbers n m leader present) (run budget) (now (cluster .entry))) (now (stores .entry)))
         × (now (slot .exit) ≡ resultSlot (callResult (numbers n m leader present) (run budget) (now (cluster .entry))) (now (slot .entry))) ⌝ }
 {
-    match recovery::run::run_cluster(cluster, n, m, leader, present, budget) {
+    match run::run_cluster(cluster, n, m, leader, present, budget) {
         recovery::RunAnswer::Recovered(made) => {
             *status = 0;
             *stores = made;

@@ -15,7 +15,7 @@ ghost use Rattle.ropelog.specs.Images.{handedOut, flag, payloadFound, fo
 pub extern "C" fn rope_format(image: &mut [u8], replica: usize, n: usize, m: usize) -> u8
     ensures { λ r. ⌜ (r ≡ callRefusal replica n m (length (now (image .entry)))) × (now (image .exit) ≡ formatted replica n m (now (image .entry))) ⌝ }
 {
-    match image::append::format_image(image, replica, n, m) {
+    match append::format_image(image, replica, n, m) {
         image::FormatAnswer::Formatted => 0,
         image::FormatAnswer::Refused(refusal) => refusal,
     }
@@ -36,7 +36,7 @@ pub extern "C" fn rope_append(
         × (now (image .exit) ≡ appended replica n m (now (image .entry)) epoch (now (payload .entry)))
         × (now (slot .exit) ≡ handedOut r (suc (logLength m (decodeImage replica n m (now (image .entry))))) (now (slot .entry))) ⌝ }
 {
-    match image::append::append_entry(image, replica, n, m, epoch, payload) {
+    match append::append_entry(image, replica, n, m, epoch, payload) {
         image::AppendAnswer::Slot(written) => {
             *slot = written;
             0
@@ -61,7 +61,7 @@ pub extern "C" fn rope_read(
         × (now (verdicts .exit) ≡ unlessRefused r (verdictsOf m (decodeImage replica n m (now (image .entry)))) (now (verdicts .entry)))
         × (now (used .exit) ≡ handedOut r (logLength m (decodeImage replica n m (now (image .entry)))) (now (used .entry))) ⌝ }
 {
-    match image::read::read_image(image, replica, n, m, epochs, verdicts) {
+    match read::read_image(image, replica, n, m, epochs, verdicts) {
         image::ReadAnswer::Length(length) => {
             *used = length;
             0
@@ -83,7 +83,7 @@ pub extern "C" fn rope_has_payload(
     ensures { λ r. ⌜ (r ≡ readRefusal replica n m (now (image .entry)))
         × (now (has .exit) ≡ handedOut r (flag (hasPayload m (decodeImage replica n m (now (image .entry))) slot)) (now (has .entry))) ⌝ }
 {
-    match image::read::has_payload(image, replica, n, m, slot) {
+    match read::has_payload(image, replica, n, m, slot) {
         image::PayloadAnswer::Present => {
             *has = 1;
             0
@@ -112,7 +112,7 @@ pub extern "C" fn rope_payload(
         × (now (size .exit) ≡ found r (length (payloadOf replica n m (now (image .entry)) slot)) (now (size .entry)))
         × (r ≡ 1 → part (now (image .entry)) (now (at .exit)) (now (size .exit)) ≡ payloadOf replica n m (now (image .entry)) slot) ⌝ }
 {
-    let span = image::read::payload_span(image, replica, n, m, slot);
+    let span = read::payload_span(image, replica, n, m, slot);
     let start = span.start;
     if start == 0 {
         return 0;

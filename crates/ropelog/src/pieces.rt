@@ -11,7 +11,7 @@ ghost use Rattle.ropelog.specs.Pieces.{sizeRefusal, entryRefusal, unless
 pub extern "C" fn rope_checksum(s: &[u8]) -> u32
     ensures { λ r. ⌜ r ≡ checksumOf (now (s .entry)) ⌝ }
 {
-    checksum::checksum_of(s)
+    sum::checksum_of(s)
 }
 
 // Writes x over the whole slice, right-justified.
@@ -19,7 +19,7 @@ pub extern "C" fn rope_checksum(s: &[u8]) -> u32
 pub extern "C" fn rope_write_number(s: &mut [u8], x: u64)
     ensures { λ _. ⌜ now (s .exit) ≡ column (length (now (s .entry))) x ⌝ }
 {
-    column::write_number(s, x);
+    spell::write_number(s, x);
 }
 
 // Reads a column: 0 and the number, 1 blank, 2 malformed, 3 over 19 bytes.
@@ -30,7 +30,7 @@ pub extern "C" fn rope_read_column(s: &[u8], value: &mut u64) -> u8
     if 19 < s.len() {
         return 3;
     }
-    match column::read_column(s) {
+    match spell::read_column(s) {
         column::ColumnState::Number(x) => {
             *value = x;
             0
@@ -48,7 +48,7 @@ pub extern "C" fn rope_write_header(s: &mut [u8], replica: usize, n: usize, m: u
     if s.len() != 28 {
         return 3;
     }
-    record::write_header(s, replica, n, m);
+    write::write_header(s, replica, n, m);
     0
 }
 
@@ -60,7 +60,7 @@ pub extern "C" fn rope_write_record(s: &mut [u8], epoch: u32, index: u32) -> u8
     if s.len() != 34 {
         return 3;
     }
-    record::write_record(s, epoch, index);
+    write::write_record(s, epoch, index);
     0
 }
 
@@ -72,7 +72,7 @@ pub extern "C" fn rope_write_blank_record(s: &mut [u8]) -> u8
     if s.len() != 34 {
         return 3;
     }
-    record::write_blank_record(s);
+    write::write_blank_record(s);
     0
 }
 
@@ -87,7 +87,7 @@ pub extern "C" fn rope_write_entry(s: &mut [u8], epoch: u32, index: u32, payload
     if 200 < payload.len() {
         return 9;
     }
-    record::write_entry(s, epoch, index, payload);
+    write::write_entry(s, epoch, index, payload);
     0
 }
 
@@ -99,7 +99,7 @@ pub extern "C" fn rope_write_fresh_entry(s: &mut [u8]) -> u8
     if s.len() != 240 {
         return 3;
     }
-    record::write_fresh_entry(s);
+    write::write_fresh_entry(s);
     0
 }
 
@@ -108,7 +108,7 @@ pub extern "C" fn rope_write_fresh_entry(s: &mut [u8]) -> u8
 pub extern "C" fn rope_is_header(s: &[u8], replica: usize, n: usize, m: usize) -> u8
     ensures { λ r. ⌜ r ≡ headerCode replica n m (now (s .entry)) ⌝ }
 {
-    if record::is_header(s, replica, n, m) {
+    if judge::is_header(s, replica, n, m) {
         return 1;
     }
     0
@@ -122,7 +122,7 @@ pub extern "C" fn rope_judge_record(s: &[u8], index: u32, epoch: &mut u32) -> u8
     if s.len() != 34 {
         return 3;
     }
-    match record::judge_record(s, index) {
+    match judge::judge_record(s, index) {
         record::RecordState::Good(e) => {
             *epoch = e;
             0
@@ -140,7 +140,7 @@ pub extern "C" fn rope_judge_entry(s: &[u8], index: u32, epoch: &mut u32, size: 
     if s.len() != 240 {
         return 3;
     }
-    match record::judge_entry(s, index) {
+    match judge::judge_entry(s, index) {
         record::EntryState::Intact(e, length) => {
             *epoch = e;
             *size = length;

@@ -8,7 +8,7 @@ const ROOM: usize = 65537;
 fn main() {
     let mut input = [0u8; ROOM];
     let size = io::read_full(STDIN_FILENO, &mut input);
-    let report = report::report_of(&input[..size]);
+    let report = print::report_of(&input[..size]);
     let count = report.count;
     let bytes = report.bytes;
     io::write_all(STDOUT_FILENO, &bytes[..count]);

@@ -1,8 +1,9 @@
 -- The exhibit is computed.
-use Rattle.demand3.specs.Damaged.{five, payloadA, histories}
+use Rattle.example.specs.Damaged.{five, payloadA}
+use Rattle.demand3.specs.Histories.{histories}
 use Rattle.demand3.proofs.PartA.{part-a}
 use Rattle.demand3.proofs.PartB.{part-b}
-use Rattle.demand3.proofs.ExampleComputed.{computed}
+use Rattle.example.proofs.ComputedLaws.{computed}
 use Rattle.demand3.proofs.ExampleSlots.{supposed}
 use Rattle.demand3.proofs.ExampleCalls.{played}
 use Rattle.demand3.proofs.exhibit_claim.Statement.{statement}

@@ -55,10 +55,10 @@ use Rattle.ropelog.proofs.ClusterCallLaws.{plan-answered}
 use Rattle.planner.proofs.ReplicaRow as T
 use Rattle.planner.proofs.PlanAnswer as PA
 use Rattle.planner.proofs.PlanAnswer.Laws as PA′
-use Rattle.planner.proofs.plan.plan_cluster as plan-cluster
-use Rattle.planner.proofs.plan.plan_cluster.Symbol as plan-cluster-def
-use Rattle.planner.proofs.plan.plan_cluster.Symbol.{name as #plan-cluster}
-use Rattle.planner.proofs.plan.plan_cluster.Met as plan-cluster-thm
+use Rattle.plan.proofs.plan_cluster as plan-cluster
+use Rattle.plan.proofs.plan_cluster.Symbol as plan-cluster-def
+use Rattle.plan.proofs.plan_cluster.Symbol.{name as #plan-cluster}
+use Rattle.plan.proofs.plan_cluster.Met as plan-cluster-thm
 use Rattle.ropelog.proofs.clusters.hand_out as hand-out
 use Rattle.ropelog.proofs.clusters.hand_out.Symbol as hand-out-def
 use Rattle.ropelog.proofs.clusters.hand_out.Symbol.{name as #hand-out}
@@ -454,6 +454,6 @@ rope-plan-spec 𝓤 H 𝓜 𝓖 𝓡 =
     entered 𝓤 H (tripleOf 𝓤 H (𝓖 .A) rope-plan.signature (rope-plan.spec 𝓤 H (𝓖 .A) (𝓜 .mem) (𝓡 .run)))
     (tables 𝓤 H 𝓜 𝓡 code.env .C) (tables 𝓤 H 𝓜 𝓡 code.env .Λ) #rope-plan code.function (code.unfolded 𝓤 H 𝓜 𝓡)
     (rope-plan-meets 𝓤 H (𝓖 .A) (givenOf 𝓤 H 𝓜 𝓖) (𝓜 .mem) (𝓡 .run) (tablesOf 𝓤 H 𝓜 (tables 𝓤 H 𝓜 𝓡 code.env)) record {
-      plans = cited 𝓤 H (PlanCluster 𝓤 H (𝓖 .A) (𝓜 .mem) (𝓡 .run)) 𝓜 𝓡 code.env #plan-cluster plan-cluster-def.routine code.calls-planner·plan·plan-cluster (plan-cluster-thm.met 𝓤 H 𝓜 𝓖 𝓡);
+      plans = cited 𝓤 H (PlanCluster 𝓤 H (𝓖 .A) (𝓜 .mem) (𝓡 .run)) 𝓜 𝓡 code.env #plan-cluster plan-cluster-def.routine code.calls-plan·plan-cluster (plan-cluster-thm.met 𝓤 H 𝓜 𝓖 𝓡);
       hands = cited 𝓤 H (HandOut 𝓤 H (𝓖 .A) (𝓜 .mem) (𝓡 .run)) 𝓜 𝓡 code.env #hand-out hand-out-def.routine code.calls-ropelog·clusters·hand-out (hand-out-thm.met 𝓤 H 𝓜 𝓖 𝓡);
     })

@@ -1,0 +1,25 @@
+-- `last_epoch` reads the last used slot.
+use mathlib.Core.Path.{sym}
+use borrow.Author.Tests.{eq-eqb, ne-eqb}
+use borrow.Author.Needs.{needs}
+use Rattle.append.proofs.last_epoch.Statement.{statement}
+use Rattle.append.proofs.last_epoch.Tie as tie
+
+returns : tie.Need-returns
+returns c = sym (rw (eq-eqb _ 0 (c .if1 .taken)))
+
+sub-result : tie.Need-sub-result
+sub-result c = search needs
+
+mul-result : tie.Need-mul-result
+mul-result c = search needs
+
+element-copy-out-result : tie.Need-element-copy-out-result
+element-copy-out-result c = search needs
+
+returns-2 : tie.Need-returns-2
+returns-2 c = sym (rw (ne-eqb _ 0 (c .before .if1 .left)))
+
+pub last-epoch-spec : {M : Type 1} → statement M
+last-epoch-spec =
+    tie.close (tie.spec returns sub-result mul-result element-copy-out-result returns-2)

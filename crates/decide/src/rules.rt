@@ -1,0 +1,235 @@
+// What the replicas answer about a faulty slot of the leader, and what is to be done about each slot. A survey's numbers
+// are lent: slot k of replica c stands at c * 64 + k. Replicas and slots count from 0 here.
+ghost use Prim.Native.Nat.{ℕ, _+_, _<_, _≤_};
+ghost use mathlib.Core.Path.{_≡_};
+ghost use mathlib.Core.Bool.{cond, not, _&&_};
+ghost use lib.Dec.{eqb, ltb};
+ghost use lib.ListN.{getD};
+ghost use Rattle.search.specs.Search.{count, listed, lowest};
+ghost use Rattle.image.specs.Read.{isWhole};
+ghost use Rattle.planner.specs.Setting.{has};
+ghost use Rattle.planner.specs.Rules.{have, dontHave, mayTruncate, end};
+ghost use Rattle.planner.specs.Plan.{keptByte};
+ghost use Rattle.planner.specs.Sets.{setOf};
+ghost use Rattle.planner.specs.Survey.{conditionFrom, agreesAt, surveySetting, surveyViews, Walked, markedByte};
+use survey::sets::contains;
+use survey::sets::insert;
+
+// Whether replica c answers: it is readable and not the leader.
+fn can_answer(readable: u32, leader: usize, c: usize) -> bool
+    requires { ⌜ c < 7 ⌝ }
+    ensures { λ r. ⌜ r ≡ not (eqb c leader) && has readable c ⌝ }
+{
+    if c == leader {
+        return false;
+    }
+    contains(readable, c)
+}
+
+// Whether a condition is whole, its record lost or not.
+fn is_whole(condition: u8) -> bool
+    ensures { λ r. ⌜ r ≡ isWhole (conditionFrom condition) ⌝ }
+{
+    if condition == 1 {
+        return true;
+    }
+    condition == 2
+}
+
+// Whether slot k of replica c is used under the leader's epoch there.
+fn agrees_at(conditions: &[u8; 448], epochs: &[u32; 448], leader: usize, c: usize, k: usize) -> bool
+    requires { ⌜ (leader < 7) × (c < 7) × (k < 64) ⌝ }
+    ensures { λ r. ⌜ r ≡ agreesAt (now (conditions .entry)) (now (epochs .entry)) leader c k ⌝ }
+{
+    if conditions[c * 64 + k] == 0 {
+        return false;
+    }
+    epochs[c * 64 + k] == epochs[leader * 64 + k]
+}
+
+// Whether replica c answers have.
+fn has_slot(
+    readable: u32,
+    conditions: &[u8; 448],
+    epochs: &[u32; 448],
+    leader: usize,
+    k: usize,
+    c: usize,
+) -> bool
+    requires { ⌜ (leader < 7) × (c < 7) × (k < 64) ⌝ }
+    ensures { λ r. ⌜ ((n l : ℕ) → r ≡ have (surveySetting n leader) (surveyViews l readable (now (conditions .entry)) (now (epochs .entry))) k c) ⌝ }
+{
+    if !can_answer(readable, leader, c) {
+        return false;
+    }
+    if !is_whole(conditions[c * 64 + k]) {
+        return false;
+    }
+    agrees_at(conditions, epochs, leader, c, k)
+}
+
+// Whether replica c answers don't-have.
+fn lacks_slot(
+    readable: u32,
+    conditions: &[u8; 448],
+    epochs: &[u32; 448],
+    leader: usize,
+    k: usize,
+    c: usize,
+) -> bool
+    requires { ⌜ (leader < 7) × (c < 7) × (k < 64) ⌝ }
+    ensures { λ r. ⌜ ((n l : ℕ) → r ≡ dontHave (surveySetting n leader) (surveyViews l readable (now (conditions .entry)) (now (epochs .entry))) k c) ⌝ }
+{
+    if !can_answer(readable, leader, c) {
+        return false;
+    }
+    !agrees_at(conditions, epochs, leader, c, k)
+}
+
+// The set of the replicas that answer don't-have.
+fn lacking(
+    readable: u32,
+    conditions: &[u8; 448],
+    epochs: &[u32; 448],
+    n: usize,
+    leader: usize,
+    k: usize,
+) -> u32
+    requires { ⌜ (n ≤ 7) × (leader < 7) × (k < 64) ⌝ }
+    ensures { λ r. ⌜ ((l : ℕ) → r ≡ setOf (dontHave (surveySetting n leader) (surveyViews l readable (now (conditions .entry)) (now (epochs .entry))) k) n) ⌝ }
+{
+    let mut set: u32 = 0;
+    let mut c: usize = 0;
+    'replicas: while c < n {
+        if !lacks_slot(readable, conditions, epochs, leader, k, c) {
+            c += 1;
+            continue 'replicas;
+        }
+        set = insert(set, c);
+        c += 1;
+    }
+    set
+}
+
+// Whether a majority of n answered don't-have.
+fn may_truncate(
+    readable: u32,
+    conditions: &[u8; 448],
+    epochs: &[u32; 448],
+    n: usize,
+    leader: usize,
+    k: usize,
+) -> bool
+    requires { ⌜ (n ≤ 7) × (leader < 7) × (k < 64) ⌝ }
+    ensures { λ r. ⌜ ((l : ℕ) → r ≡ mayTruncate n (count (dontHave (surveySetting n leader) (surveyViews l readable (now (conditions .entry)) (now (epochs .entry))) k) n)) ⌝ }
+{
+    let set = lacking(readable, conditions, epochs, n, leader, k);
+    u32::count_ones(set) as usize >= n / 2 + 1
+}
+
+// The plan byte of a slot that is not faulty.
+fn kept_byte(condition: u8) -> u8
+    ensures { λ r. ⌜ r ≡ keptByte (conditionFrom condition) ⌝ }
+{
+    if condition < 3 {
+        return condition;
+    }
+    0
+}
+
+// The plan byte of a faulty slot that is not truncated: fetch from the donor, or wait where there is none.
+fn faulty_byte(donor: usize, n: usize) -> u8
+    requires { ⌜ n ≤ 7 ⌝ }
+    ensures { λ r. ⌜ r ≡ cond (ltb donor n) (11 + donor) 3 ⌝ }
+{
+    if donor < n {
+        return (11 + donor) as u8;
+    }
+    3
+}
+
+// Plan bytes of the slots below the end of the log.
+pub struct Walk {
+    pub bytes: [u8; 64],
+    pub end: usize,
+}
+
+// Goes over the leader's slots up to the lowest one that is truncated. The others fetch from the lowest-numbered replica
+// that has the slot intact, or wait.
+pub fn walk_slots<'a>(
+    readable: u32,
+    conditions: &'a [u8; 448],
+    epochs: &'a [u32; 448],
+    n: usize,
+    leader: usize,
+    length: usize,
+) -> Walk
+    requires { ⌜ (n ≤ 7) × (leader < n) × (length ≤ 64) ⌝ }
+    ensures { λ r. ⌜ (r .end ≡ end (surveySetting n leader) (surveyViews length readable (now (conditions .entry)) (now (epochs .entry)))) × Walked (surveySetting n leader) (surveyViews length readable (now (conditions .entry)) (now (epochs .entry))) (r .bytes) (r .end) ⌝ }
+{
+    let mut bytes = [0u8; 64];
+    let mut k: usize = 0;
+    'slots: while k < length {
+        let condition = conditions[leader * 64 + k];
+        if condition != 3 {
+            bytes[k] = kept_byte(condition);
+            k += 1;
+            continue 'slots;
+        }
+        let mut c: usize = 0;
+        let donor = loop {
+            if n <= c {
+                if may_truncate(readable, conditions, epochs, n, leader, k) {
+                    break 'slots;
+                }
+                break n;
+            }
+            if has_slot(readable, conditions, epochs, leader, k, c) {
+                break c;
+            }
+            c += 1;
+        };
+        bytes[k] = faulty_byte(donor, n);
+        k += 1;
+    }
+    Walk { bytes, end: k }
+}
+
+// The byte of a used slot from the lowest truncated one on.
+fn truncated_byte(k: usize, end: usize) -> u8
+    ensures { λ r. ⌜ r ≡ cond (eqb k end) 4 5 ⌝ }
+{
+    if k == end {
+        return 4;
+    }
+    5
+}
+
+// Marks the used slots from the end of the log on.
+pub fn mark_truncated(bytes: [u8; 64], end: usize, length: usize) -> [u8; 64]
+    requires { ⌜ (end ≤ length) × (length ≤ 64) ⌝ }
+    ensures { λ r. ⌜ r ≡ listed 64 (markedByte bytes end length) ⌝ }
+{
+    let mut marked = bytes;
+    let mut k = end;
+    while k < length {
+        marked[k] = truncated_byte(k, end);
+        k += 1;
+    }
+    marked
+}
+
+// The lowest slot below the end that waits; the end if none does.
+pub fn first_waiting(bytes: &[u8; 64], end: usize) -> usize
+    requires { ⌜ end ≤ 64 ⌝ }
+    ensures { λ r. ⌜ r ≡ lowest (λ k. eqb (getD (now (bytes .entry)) k 0) 3) end ⌝ }
+{
+    let mut k: usize = 0;
+    while k < end {
+        if bytes[k] == 3 {
+            return k;
+        }
+        k += 1;
+    }
+    k
+}

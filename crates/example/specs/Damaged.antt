@@ -1,0 +1,55 @@
+-- A damaged cluster of five replicas with three slots, in the writer's bytes. Epoch 2 wrote payloads A and B, which a majority holds, and C was in flight.
+use mathlib.Core.List.{[], _∷_, _++_}
+use lib.ListN.{replicate}
+use Rattle.slices.specs.Parts.{Bytes}
+use Rattle.record.specs.Layout.{headerBytes, recordBytes, blankRecord, entryBytes, freshEntry}
+use Rattle.protocol.specs.Call.{Numbers}
+
+-- leader 1, all five present
+unfoldable pub five : Numbers
+five = record { n = 5; m = 3; leader = 1; present = 31 }
+
+unfoldable pub payloadA : Bytes
+payloadA = 65 ∷ []
+
+unfoldable pub payloadB : Bytes
+payloadB = 66 ∷ []
+
+unfoldable pub payloadC : Bytes
+payloadC = 67 ∷ []
+
+-- 240 bytes that are no intact entry, and 34 that are neither a good nor a blank record
+unfoldable pub noise : Bytes
+noise = replicate 240 9
+
+unfoldable pub scratch : Bytes
+scratch = replicate 34 9
+
+-- the leader: an entry of epoch 1 in place of A, B's record lost, C in flight with its record and without its entry
+unfoldable pub first : Bytes
+first =
+    headerBytes 1 5 3
+    ++ (recordBytes 2 1 ++ (scratch ++ (recordBytes 2 3 ++ (entryBytes 1 1 payloadC ++ (entryBytes 2 2 payloadB ++ noise)))))
+
+-- A and B whole
+unfoldable pub second : Bytes
+second =
+    headerBytes 2 5 3
+    ++ (recordBytes 2 1 ++ (recordBytes 2 2 ++ (blankRecord ++ (entryBytes 2 1 payloadA ++ (entryBytes 2 2 payloadB ++ freshEntry)))))
+
+-- nothing
+unfoldable pub third : Bytes
+third = headerBytes 3 5 3 ++ (blankRecord ++ (blankRecord ++ (blankRecord ++ (freshEntry ++ (freshEntry ++ freshEntry)))))
+
+-- A whole, B's entry damaged
+unfoldable pub fourth : Bytes
+fourth =
+    headerBytes 4 5 3
+    ++ (recordBytes 2 1 ++ (recordBytes 2 2 ++ (blankRecord ++ (entryBytes 2 1 payloadA ++ (noise ++ freshEntry)))))
+
+-- A whole, the header damaged
+unfoldable pub fifth : Bytes
+fifth = replicate 28 9 ++ (recordBytes 2 1 ++ (blankRecord ++ (blankRecord ++ (entryBytes 2 1 payloadA ++ (freshEntry ++ freshEntry)))))
+
+unfoldable pub damagedCluster : Bytes
+damagedCluster = first ++ (second ++ (third ++ (fourth ++ fifth)))

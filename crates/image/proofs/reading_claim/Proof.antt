@@ -1,0 +1,10 @@
+-- The claim is a law.
+use Rattle.image.proofs.ReadingLaws.{reads}
+use Rattle.image.proofs.reading_claim.Statement.{statement}
+use Rattle.image.proofs.reading_claim.Tie as tie
+
+returns : tie.Need-returns
+returns z = record { reads = reads }
+
+pub reading-claim-spec : {M : Type 1} → statement M
+reading-claim-spec = tie.close (tie.spec returns)

@@ -1,0 +1,84 @@
+// What a survey says once a store has been made, so that a run reads no image again. Slot k of replica c stands at c * 64 + k.
+ghost use Prim.Native.Nat.{ℕ, suc, _<_};
+ghost use mathlib.Core.Path.{_≡_};
+ghost use mathlib.Core.Bool.{cond};
+ghost use mathlib.Core.Option.{some};
+ghost use lib.Dec.{ltb};
+ghost use Rattle.protocol.specs.Store.{Store, storeEntry, storeRecord, storeBlank, storeReplica, storeSlot};
+ghost use Rattle.recovery.specs.NextStore.{storeOf};
+ghost use Rattle.recovery.specs.Note.{SlotSet, Noted};
+use planner::Survey;
+use recovery::NextStore;
+
+// A survey in which the log of replica c is so long, and its slot k has this condition's number and this epoch.
+fn with_slot(survey: Survey, c: usize, k: usize, length: usize, condition: u8, epoch: u32) -> Survey
+    requires { ⌜ (c < 7) × (k < 64) ⌝ }
+    ensures { λ r. ⌜ SlotSet survey r c k length condition epoch ⌝ }
+{
+    let mut lengths = survey.lengths;
+    let mut conditions = survey.conditions;
+    let mut epochs = survey.epochs;
+    lengths[c] = length;
+    conditions[c * 64 + k] = condition;
+    epochs[c * 64 + k] = epoch;
+    Survey {
+        readable: survey.readable,
+        lengths,
+        conditions,
+        epochs,
+    }
+}
+
+// A stored entry mends a used slot; behind the log it is not seen.
+fn note_entry(survey: Survey, c: usize, k: usize) -> Survey
+    requires { ⌜ (c < 7) × (k < 64) ⌝ }
+    ensures { λ r. ⌜ ((d : ℕ) → Noted (storeEntry c k d) survey r) ⌝ }
+{
+    let length = survey.lengths[c];
+    if length <= k {
+        return survey;
+    }
+    let epoch = survey.epochs[c * 64 + k];
+    with_slot(survey, c, k, length, 1, epoch)
+}
+
+// How long a log is whose slot k got a record.
+fn length_with(length: usize, k: usize) -> usize
+    requires { ⌜ k < 64 ⌝ }
+    ensures { λ r. ⌜ r ≡ cond (ltb k length) length (suc k) ⌝ }
+{
+    if k < length {
+        return length;
+    }
+    k + 1
+}
+
+// A stored record makes a slot whole; the log grows by it if the slot was unused.
+fn note_record(survey: Survey, c: usize, k: usize, epoch: u32) -> Survey
+    requires { ⌜ (c < 7) × (k < 64) ⌝ }
+    ensures { λ r. ⌜ Noted (storeRecord c k epoch) survey r ⌝ }
+{
+    let grown = length_with(survey.lengths[c], k);
+    with_slot(survey, c, k, grown, 1, epoch)
+}
+
+// A blanked record leaves its slot unused, and ends the log there.
+fn note_blank(survey: Survey, c: usize, k: usize) -> Survey
+    requires { ⌜ (c < 7) × (k < 64) ⌝ }
+    ensures { λ r. ⌜ Noted (storeBlank c k) survey r ⌝ }
+{
+    with_slot(survey, c, k, k, 0, 0)
+}
+
+// The survey once the store has been made.
+pub fn note_store(survey: Survey, store: NextStore) -> Survey
+    requires { ⌜ ((t : Store) → storeOf store ≡ some t → (storeReplica t < 7) × (storeSlot t < 64)) ⌝ }
+    ensures { λ r. ⌜ ((t : Store) → storeOf store ≡ some t → Noted t survey r) ⌝ }
+{
+    match store {
+        NextStore::Nothing => survey,
+        NextStore::Entry(c, k, _donor) => note_entry(survey, c, k),
+        NextStore::Record(c, k, epoch) => note_record(survey, c, k, epoch),
+        NextStore::Blank(c, k) => note_blank(survey, c, k),
+    }
+}

@@ -1,0 +1,135 @@
+// The planner's call: the plan and the table of a cluster.
+ghost use Prim.Native.Nat.{ℕ, _≤_};
+ghost use mathlib.Core.Path.{_≡_};
+ghost use lib.ListN.{length, take};
+ghost use Rattle.image.specs.View.{View};
+ghost use Rattle.planner.specs.Setting.{Setting, settingOf};
+ghost use Rattle.planner.specs.Rules.{answer};
+ghost use Rattle.planner.specs.Plan.{viewsIn, planRefusal, planBytes};
+ghost use Rattle.planner.specs.Answers.{lentRefusal, answerAt, unlessRefused, planAnswer, rowsOf, Outcome};
+use decide::plan_survey;
+use planner::PlanAnswer;
+use planner::ReplicaRow;
+use survey::cluster::view_cluster;
+use tabulate::PlanOutcome;
+use tabulate::fill_rows;
+use tabulate::survey_rows;
+
+// The answer of a plan: the number of the lowest waiting slot, or the final length.
+pub fn plan_answer(end: usize, waiting: usize) -> PlanAnswer
+    ensures { λ r. ⌜ r ≡ answerAt end waiting ⌝ }
+{
+    if waiting < end {
+        return PlanAnswer::Waiting(waiting + 1);
+    }
+    PlanAnswer::Ready(end)
+}
+
+// Refusal 13, after all else that applies: the plan has not m bytes, or the table not n rows.
+fn lent_refusal(refusal: u8, n: usize, m: usize, bytes: usize, rows: usize) -> u8
+    ensures { λ r. ⌜ r ≡ lentRefusal refusal n m bytes rows ⌝ }
+{
+    if refusal != 0 {
+        return refusal;
+    }
+    if bytes != m {
+        return 13;
+    }
+    if rows != n {
+        return 13;
+    }
+    0
+}
+
+// The outcome of a refused call.
+fn refused(refusal: u8) -> PlanOutcome
+    requires { ⌜ (refusal ≡ 0 → ⊥) ⌝ }
+    ensures { λ r. ⌜ ((S : Setting) (W : ℕ → View) → Outcome refusal S W (r .answer) (r .count) (r .rows)) ⌝ }
+{
+    let rows = [ReplicaRow {
+        readable: 0,
+        length: 0,
+        last_epoch: 0,
+    }; 7];
+    PlanOutcome {
+        answer: PlanAnswer::Refused(refusal),
+        count: 0,
+        rows,
+    }
+}
+
+// Fills a plan from the bytes of 64 slots.
+fn put_bytes(plan: &mut [u8], bytes: &[u8; 64])
+    requires { ⌜ (length (now plan) ≤ 64) × (length (now bytes) ≡ 64) ⌝ }
+    ensures { λ _. ⌜ now (plan .exit) ≡ take (length (now (plan .entry))) (now (bytes .entry)) ⌝ }
+{
+    let mut k: usize = 0;
+    while k < plan.len() {
+        plan[k] = bytes[k];
+        k += 1;
+    }
+}
+
+// Plans a cluster and fills the plan's bytes. The rows of a table of `rows` rows are in the outcome.
+pub fn plan_bytes(
+    plan: &mut [u8],
+    cluster: &[u8],
+    n: usize,
+    m: usize,
+    leader: usize,
+    present: u32,
+    rows: usize,
+) -> PlanOutcome
+    ensures { λ r. ⌜ Outcome (planRefusal n m leader present (now (cluster .entry)) (length (now (plan .entry))) rows) (settingOf n m leader present) (viewsIn (settingOf n m leader present) (now (cluster .entry))) (r .answer) (r .count) (r .rows)
+        × (now (plan .exit) ≡ unlessRefused (planRefusal n m leader present (now (cluster .entry)) (length (now (plan .entry))) rows) (planBytes (settingOf n m leader present) (viewsIn (settingOf n m leader present) (now (cluster .entry)))) (now (plan .entry))) ⌝ }
+{
+    let view = view_cluster(cluster, n, m, leader, present);
+    let refusal = lent_refusal(view.refusal, n, m, plan.len(), rows);
+    if refusal != 0 {
+        return refused(refusal);
+    }
+    let survey = view.survey;
+    let found = plan_survey(survey, n, leader - 1);
+    let bytes = found.bytes;
+    put_bytes(plan, &bytes);
+    let rows = survey_rows(survey.readable, &survey.lengths, &survey.epochs, n);
+    let answer = plan_answer(found.end, found.waiting);
+    PlanOutcome {
+        answer,
+        count: n,
+        rows,
+    }
+}
+
+// How many rows an outcome has to fill.
+fn outcome_count(found: PlanOutcome) -> usize
+    ensures { λ r. ⌜ r ≡ found .count ⌝ }
+{
+    found.count
+}
+
+// The answer of an outcome.
+fn outcome_answer(found: PlanOutcome) -> PlanAnswer
+    ensures { λ r. ⌜ r ≡ found .answer ⌝ }
+{
+    found.answer
+}
+
+// The planner's call: the plan of m bytes and the table of n rows are filled, unless the call is refused.
+pub fn plan_cluster(
+    cluster: &[u8],
+    n: usize,
+    m: usize,
+    leader: usize,
+    present: u32,
+    plan: &mut [u8],
+    rows: &mut [ReplicaRow],
+) -> PlanAnswer
+    ensures { λ r. ⌜ (r ≡ planAnswer (planRefusal n m leader present (now (cluster .entry)) (length (now (plan .entry))) (length (now (rows .entry)))) (answer (settingOf n m leader present) (viewsIn (settingOf n m leader present) (now (cluster .entry)))))
+        × (now (plan .exit) ≡ unlessRefused (planRefusal n m leader present (now (cluster .entry)) (length (now (plan .entry))) (length (now (rows .entry)))) (planBytes (settingOf n m leader present) (viewsIn (settingOf n m leader present) (now (cluster .entry)))) (now (plan .entry)))
+        × (now (rows .exit) ≡ unlessRefused (planRefusal n m leader present (now (cluster .entry)) (length (now (plan .entry))) (length (now (rows .entry)))) (rowsOf (settingOf n m leader present) (viewsIn (settingOf n m leader present) (now (cluster .entry)))) (now (rows .entry))) ⌝ }
+{
+    let found = plan_bytes(plan, cluster, n, m, leader, present, rows.len());
+    fill_rows(rows, found, outcome_count(found));
+    outcome_answer(found)
+}

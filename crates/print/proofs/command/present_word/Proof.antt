@@ -1,0 +1,29 @@
+use Rattle.planner.proofs.SeenLaws.{size-le}
+use Rattle.report.proofs.CommandLaws as law
+use native.Mathlib.Omega.{arith}
+use borrow.Author.Needs.{needs}
+use Rattle.print.proofs.command.present_word.Statement.{statement}
+use Rattle.print.proofs.command.present_word.Tie as tie
+
+enum-known-present : tie.Need-enum-known-present
+enum-known-present c = search needs
+
+enum-told : tie.Need-enum-told
+enum-told c = search needs
+
+returns : tie.Need-returns
+returns c = λ h. absurd (omega (arith, size-le _ h))
+
+all-replicas-requires : tie.Need-all-replicas-requires
+all-replicas-requires c κs = search needs
+
+returns-2 : tie.Need-returns-2
+returns-2 c = λ h. law.present-all _ _ (c .before .before .enum-told .given .1) (c .all-replicas .ensures)
+
+returns-3 : tie.Need-returns-3
+returns-3 c = λ h. law.present-set _ _ (c .before .present .given .1)
+
+pub present-word-spec : {M : Type 1} → statement M
+present-word-spec =
+    tie.close
+    (tie.spec enum-known-present enum-told returns all-replicas-requires returns-2 returns-3)

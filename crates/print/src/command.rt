@@ -1,0 +1,73 @@
+// The command line.
+ghost use mathlib.Core.Path.{_≡_};
+ghost use Prim.Native.Nat.{ℕ, _^_, _-_, _<_};
+ghost use Rattle.report.specs.Command.{commandOf, commandLine, presentOf};
+ghost use mathlib.Core.Bool.{true};
+ghost use Rattle.image.specs.View.{isSize};
+use column::ColumnState;
+use report::Command;
+use report::Present;
+
+// A command line of these columns: only the set may be blank.
+fn command_of(n: ColumnState, m: ColumnState, leader: ColumnState, set: ColumnState) -> Command
+    requires { ⌜ ((w : ℕ) → set ≡ ColumnState.Number w → w < 10000) ⌝ }
+    ensures { λ r. ⌜ r ≡ commandOf n m leader set ⌝ }
+{
+    let ColumnState::Number(n) = n else {
+        return Command::Malformed;
+    };
+    let ColumnState::Number(m) = m else {
+        return Command::Malformed;
+    };
+    let ColumnState::Number(leader) = leader else {
+        return Command::Malformed;
+    };
+    match set {
+        ColumnState::Number(w) => Command::Well(
+            n as usize,
+            m as usize,
+            leader as usize,
+            Present::Set(w as u32),
+        ),
+        ColumnState::Blank => Command::Well(n as usize, m as usize, leader as usize, Present::All),
+        ColumnState::Malformed => Command::Malformed,
+    }
+}
+
+// The command line at the front of an input.
+pub fn read_command(input: &[u8]) -> Command
+    ensures { λ r. ⌜ r ≡ commandLine (now (input .entry)) ⌝ }
+{
+    if input.len() < 14 {
+        return Command::Malformed;
+    }
+    if input[13] != 10 {
+        return Command::Malformed;
+    }
+    let n = spell::read_column(&input[0..3]);
+    let m = spell::read_column(&input[3..6]);
+    let leader = spell::read_column(&input[6..9]);
+    let set = spell::read_column(&input[9..13]);
+    command_of(n, m, leader, set)
+}
+
+// The set of all n replicas.
+fn all_replicas(n: usize) -> u32
+    requires { ⌜ n < 32 ⌝ }
+    ensures { λ r. ⌜ r ≡ 2 ^ n - 1 ⌝ }
+{
+    (1 << n) - 1
+}
+
+// The present set as a word. Where n is refused, any word will do.
+pub fn present_word(n: usize, present: Present) -> u32
+    ensures { λ r. ⌜ (isSize n ≡ true → r ≡ presentOf n present) ⌝ }
+{
+    let Present::Set(word) = present else {
+        if 31 < n {
+            return 0;
+        }
+        return all_replicas(n);
+    };
+    word
+}

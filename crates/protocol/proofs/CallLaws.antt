@@ -1,0 +1,162 @@
+-- What a call answers and leaves, by whether it is refused and by the planner's answer.
+use Prim.Native.Nat.{ℕ, zero, suc, pred, _^_, _≤_, _<_}
+use mathlib.Core.Path.{_≡_, refl, sym, ap, _∙_}
+use mathlib.Core.Bool.{Bool, true, false, cond, not, _&&_}
+use native.Mathlib.Omega.{arith}
+use native.Mathlib.Decide.{ℕ-discrete}
+use lib.Dec.{eqb, leb, ltb}
+use lib.ListN.{length}
+use borrow.Author.Tests.{eqb-true, leb-true, not-false, eq-eqb, ne-eqb}
+use Rattle.slices.specs.Parts.{Bytes}
+use Rattle.slices.proofs.SameLaws.{and-left, and-right}
+use Rattle.image.specs.Refusal.{refuse, _else_}
+use Rattle.image.specs.View.{isSize, isReplica, isSlots}
+use Rattle.image.specs.Cluster.{imageAt}
+use Rattle.image.proofs.RefusalLaws.{refuse-off, refuse-zero, else-zero-l, else-zero-r}
+use Rattle.planner.specs.Setting.{Setting, settingOf}
+use Rattle.planner.specs.Rules.{Answer, Refused, Waiting, Ready, answer, firstWaiting, end}
+use Rattle.planner.specs.Plan.{viewsIn, clusterRefusal, planRefusal}
+use Rattle.protocol.specs.StepBytes.{nextIn, stepsBytes, storesBytes}
+use Rattle.protocol.specs.Call.{Call, plan, step, run, Numbers, named, budgetOf, refusalIn, refusalOf}
+use Rattle.protocol.specs.CallResult.{refused, callResult, callBytes, acceptedResult, readyResult, answered, stepResult, runResult, planning}
+
+-- what a cluster that is not refused has
+pub record Accepted (N : Numbers) (b : Bytes) : Type 0 where
+  pub slots : isSlots (N .m) ≡ true
+  pub sizes : isSize (N .n) ≡ true
+  pub size : length b ≡ imageAt (N .m) (N .n)
+  pub low : named N .leader < N .n
+  pub readable : viewsIn (named N) b (named N .leader) .readable ≡ true
+
+test : (k : ℕ) (t : Bool) → refuse (suc k) (not t) ≡ 0 → t ≡ true
+test k t e = not-false t (refuse-zero k (not t) e)
+
+pub accepted : (N : Numbers) (b : Bytes) → refusalIn N b ≡ 0 → Accepted N b
+unfolding clusterRefusal settingOf isReplica
+accepted N b e =
+    let r = viewsIn (named N) b (pred (N .leader)) .readable in
+    let e₁ = else-zero-r (refuse 1 (not (isSlots (N .m)))) _ e in
+    let e₂ = else-zero-r (refuse 2 (not (isSize (N .n)))) _ e₁ in
+    let e₃ = else-zero-r (refuse 3 (not (eqb (length b) (imageAt (N .m) (N .n))))) _ e₂ in
+    let e₄ = else-zero-r (refuse 11 (not (ltb (N .present) (2 ^ N .n)))) _ e₃ in
+    let t = test 11 (leb 1 (N .leader) && leb (N .leader) (N .n) && r) e₄ in
+    let u = and-left (leb 1 (N .leader) && leb (N .leader) (N .n)) r t in
+    let one : 1 ≤ N .leader = leb-true 1 (N .leader) (and-left (leb 1 (N .leader)) (leb (N .leader) (N .n)) u) in
+    let top : N .leader ≤ N .n = leb-true (N .leader) (N .n) (and-right (leb 1 (N .leader)) (leb (N .leader) (N .n)) u) in
+    record {
+      slots = test 0 (isSlots (N .m)) (else-zero-l (refuse 1 (not (isSlots (N .m)))) _ e);
+      sizes = test 1 (isSize (N .n)) (else-zero-l (refuse 2 (not (isSize (N .n)))) _ e₁);
+      size = eqb-true (length b) (imageAt (N .m) (N .n)) (test 2 (eqb (length b) (imageAt (N .m) (N .n))) (else-zero-l (refuse 3 (not (eqb (length b) (imageAt (N .m) (N .n))))) _ e₂));
+      low = (let f : pred (N .leader) < N .n = omega arith in f);
+      readable = and-right (leb 1 (N .leader) && leb (N .leader) (N .n)) r t;
+    }
+
+-- a call that is not refused finds the cluster not refused
+pub call-accepted : (N : Numbers) (q : Call) (b : Bytes) → refusalOf N q b ≡ 0 → refusalIn N b ≡ 0
+unfolding refusalOf planRefusal
+call-accepted N (plan p r) b e = else-zero-l _ _ e
+call-accepted N step b e = e
+call-accepted N (run j) b e = e
+
+pub refusal-same : (N : Numbers) (a b : Bytes) → length a ≡ length b → viewsIn (named N) a (named N .leader) .readable ≡ viewsIn (named N) b (named N .leader) .readable
+    → refusalIn N a ≡ refusalIn N b
+unfolding clusterRefusal settingOf
+refusal-same N a b l r = rw (r, l)
+
+-- ---- results and bytes
+module _ (N : Numbers) (q : Call) (b : Bytes) where
+  pub refused-result : (refusalOf N q b ≡ 0 → ⊥) → callResult N q b ≡ refused (refusalOf N q b)
+  unfolding callResult
+  refused-result h = rw (ne-eqb (refusalOf N q b) 0 h)
+
+  pub refused-bytes : (refusalOf N q b ≡ 0 → ⊥) → callBytes N q b ≡ b
+  unfolding callBytes
+  refused-bytes h = rw (ne-eqb (refusalOf N q b) 0 h)
+
+  pub made-result : refusalOf N q b ≡ 0 → callResult N q b ≡ acceptedResult N q b
+  unfolding callResult
+  made-result e = rw (eq-eqb (refusalOf N q b) 0 e)
+
+  pub made-bytes : refusalOf N q b ≡ 0 → callBytes N q b ≡ stepsBytes (named N) (budgetOf q) b
+  unfolding callBytes
+  made-bytes e = rw (eq-eqb (refusalOf N q b) 0 e)
+
+else-none : (r s : ℕ) → s ≡ 0 → (r else s) ≡ r
+unfolding _else_
+else-none zero s e = e
+else-none (suc r) s e = refl
+
+module _ (N : Numbers) (b : Bytes) where
+  -- planning with the buffers that it asks for is refused as the cluster is
+  pub planning-refusal : refusalOf N (planning N) b ≡ refusalIn N b
+  unfolding refusalOf planRefusal
+  planning-refusal = else-none (refusalIn N b) _ (refuse-off 13 (rw (eq-eqb (N .m) (N .m) refl, eq-eqb (N .n) (N .n) refl)))
+
+  module _ (h : refusalIn N b ≡ 0 → ⊥) where
+    pub planning-refused : callResult N (planning N) b ≡ refused (refusalIn N b)
+    planning-refused = refused-result N (planning N) b (λ e. h (sym planning-refusal ∙ e)) ∙ ap refused planning-refusal
+
+    pub step-refused : callResult N step b ≡ refused (refusalIn N b)
+    unfolding refusalOf
+    step-refused = refused-result N step b h
+
+    pub run-refused : (j : ℕ) → callResult N (run j) b ≡ refused (refusalIn N b)
+    unfolding refusalOf
+    run-refused j = refused-result N (run j) b h
+
+    pub run-kept : (j : ℕ) → callBytes N (run j) b ≡ b
+    unfolding refusalOf
+    run-kept j = refused-bytes N (run j) b h
+
+    pub step-kept : callBytes N step b ≡ b
+    unfolding refusalOf
+    step-kept = refused-bytes N step b h
+
+  module _ (e : refusalIn N b ≡ 0) where
+    pub planning-result : callResult N (planning N) b ≡ readyResult (answer (named N) (viewsIn (named N) b))
+    unfolding acceptedResult
+    planning-result = made-result N (planning N) b (planning-refusal ∙ e)
+
+    pub step-result : callResult N step b ≡ answered (answer (named N) (viewsIn (named N) b)) (stepResult (nextIn (named N) b))
+    unfolding acceptedResult refusalOf
+    step-result = made-result N step b e
+
+    pub run-result : (j : ℕ)
+        → callResult N (run j) b
+        ≡ answered (answer (named N) (viewsIn (named N) b)) (runResult (storesBytes (named N) j b) (nextIn (named N) (stepsBytes (named N) j b)))
+    unfolding acceptedResult refusalOf
+    run-result j = made-result N (run j) b e
+
+    pub run-bytes : (j : ℕ) → callBytes N (run j) b ≡ stepsBytes (named N) j b
+    unfolding refusalOf budgetOf
+    run-bytes j = made-bytes N (run j) b e
+
+    pub step-bytes : callBytes N step b ≡ stepsBytes (named N) 1 b
+    unfolding refusalOf budgetOf
+    step-bytes = made-bytes N step b e
+
+-- ---- a cluster is refused, waits or is ready
+pub not-refused : (S : Setting) (b : Bytes) → viewsIn S b (S .leader) .readable ≡ true → answer S (viewsIn S b) ≡ Refused → ⊥
+unfolding answer
+not-refused S b r e = go (ltb (firstWaiting S (viewsIn S b)) (end S (viewsIn S b))) (rw r at e)
+  where
+    go : (t : Bool) → cond t (Waiting (firstWaiting S (viewsIn S b))) (Ready (end S (viewsIn S b))) ≡ Refused → ⊥
+    go true x = let z : _≡_ {A = ℕ} 0 1 = cc in omega arith
+    go false x = let z : _≡_ {A = ℕ} 0 1 = cc in omega arith
+
+pub data Standing (N : Numbers) (b : Bytes) : Type 0 where
+  isRefused : (refusalIn N b ≡ 0 → ⊥) → Standing N b
+  isWaiting : refusalIn N b ≡ 0 → (k : ℕ) → answer (named N) (viewsIn (named N) b) ≡ Waiting k → Standing N b
+  isReady : refusalIn N b ≡ 0 → (l : ℕ) → answer (named N) (viewsIn (named N) b) ≡ Ready l → Standing N b
+
+pub standing : (N : Numbers) (b : Bytes) → Standing N b
+standing N b = go (ℕ-discrete (refusalIn N b) 0)
+  where
+    by : refusalIn N b ≡ 0 → (a : Answer) → answer (named N) (viewsIn (named N) b) ≡ a → (a ≡ Refused → ⊥) → Standing N b
+    by e Refused x h = absurd (h refl)
+    by e (Waiting k) x h = isWaiting e k x
+    by e (Ready l) x h = isReady e l x
+
+    go : Dec (refusalIn N b ≡ 0) → Standing N b
+    go (yes e) = by e (answer (named N) (viewsIn (named N) b)) refl (not-refused (named N) b (accepted N b e .readable))
+    go (no h) = isRefused h

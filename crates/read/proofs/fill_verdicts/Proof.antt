@@ -1,0 +1,63 @@
+-- `fill_verdicts` fills from the front.
+use Prim.Native.Nat.{_-_, _≤_}
+use mathlib.Core.Path.{_≡_}
+use lib.ListN.{length, take}
+use Rattle.search.specs.Search.{listed}
+use Rattle.image.specs.Image.{Image}
+use Rattle.image.specs.Verdict.{verdictAt}
+use Rattle.image.specs.Scan.{Marked}
+use Rattle.image.proofs.SlotLaws.{list-start}
+use Rattle.image.proofs.VerdictSteps.{verdicts-more, verdicts-end}
+use borrow.Author.Needs.{needs}
+use native.Mathlib.Omega.{arith}
+use Rattle.read.proofs.fill_verdicts.Statement.{statement}
+use Rattle.read.proofs.fill_verdicts.Tie as tie
+
+abbrev Inv-loop : tie.InvT-loop
+Inv-loop conditions used unfinished verdicts₀ k₀ verdicts k = (k ≤ length verdicts₀) × (length verdicts ≡ length verdicts₀) × ((i : Image) → Marked (length verdicts₀) i used conditions unfinished → take k verdicts ≡ listed k (verdictAt (length verdicts₀) i))
+
+abbrev μ-loop : tie.MeasureT-loop
+μ-loop conditions used unfinished verdicts₀ k₀ verdicts k = length verdicts₀ - k
+
+loop-holds : tie.Need-loop-holds Inv-loop μ-loop
+loop-holds c = (search needs, search needs, λ i s. list-start _)
+
+element-copy-out-verdict : tie.Need-element-copy-out-verdict Inv-loop μ-loop
+element-copy-out-verdict c = search needs
+
+verdict-requires : tie.Need-verdict-requires Inv-loop μ-loop
+verdict-requires c κs = search needs
+
+slice-write-verdicts : tie.Need-slice-write-verdicts Inv-loop μ-loop
+slice-write-verdicts c = search needs
+
+add-k : tie.Need-add-k Inv-loop μ-loop
+add-k c = search needs
+
+loop-less : tie.Need-loop-less Inv-loop μ-loop
+loop-less c = search needs
+
+loop-again : tie.Need-loop-again Inv-loop μ-loop
+loop-again c = (search needs, search needs, λ i. verdicts-more _ _ _ _ _ _ _ _ (omega arith) (omega arith) (c .verdict .ensures) (c .before .before .before .loop .inv .2 i))
+
+same-length : tie.Need-same-length Inv-loop μ-loop
+same-length c = search needs
+
+returns : tie.Need-returns Inv-loop μ-loop
+returns c = λ i s. verdicts-end _ _ _ _ (omega arith) (omega arith) (c .before .loop .inv .2 i s)
+
+pub fill-verdicts-spec : {M : Type 1} → statement M
+fill-verdicts-spec =
+    tie.close
+    (tie.spec
+    Inv-loop
+    μ-loop
+    loop-holds
+    element-copy-out-verdict
+    verdict-requires
+    slice-write-verdicts
+    add-k
+    loop-less
+    loop-again
+    same-length
+    returns)

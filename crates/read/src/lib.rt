@@ -1,0 +1,203 @@
+// Reading for the caller: epochs and verdicts, and the payload of a slot.
+ghost use Prim.Native.Nat.{ℕ, _+_, _-_, _<_, _≤_};
+ghost use mathlib.Core.Path.{_≡_};
+ghost use mathlib.Core.Bool.{Bool, true, cond, not};
+ghost use lib.Dec.{eqb};
+ghost use lib.ListN.{length, getD, take};
+ghost use Rattle.search.specs.Search.{listed};
+ghost use Rattle.slices.specs.Parts.{part};
+ghost use Rattle.record.specs.Meaning.{entryPayload};
+ghost use Rattle.image.specs.Image.{Image, imageSize, entryAt, decodeImage};
+ghost use Rattle.image.specs.View.{Condition, conditionAt, readRefusal, logLength};
+ghost use Rattle.image.specs.Seen.{conditionNumber, conditionsOf};
+ghost use Rattle.image.specs.Verdict.{isFresh, verdictOf};
+ghost use Rattle.image.specs.Scan.{Marked, SpanIn};
+ghost use Rattle.image.specs.Read.{lentRefusal, epochsOf, verdictsOf, isWhole, hasPayload, payloadOf, payloadAt};
+ghost use Rattle.image.specs.Answers.{readAnswer, payloadAnswer};
+use image::PayloadAnswer;
+use image::ReadAnswer;
+use record::EntryState;
+use view::entry_state;
+use view::open_image;
+
+// Where a payload stands in the image.
+pub struct Span {
+    pub start: usize,
+    pub end: usize,
+}
+
+// Whether there is a slot behind the log whose entry is not all spaces.
+fn is_unfinished(image: &[u8], m: usize, used: usize) -> bool
+    requires { ⌜ (m ≤ 64) × (length (now image) ≡ imageSize m) ⌝ }
+    ensures { λ r. ⌜ ((c n : ℕ) → used < m → r ≡ not (isFresh (decodeImage c n m (now (image .entry)) .entries used))) ⌝ }
+{
+    if m <= used {
+        return false;
+    }
+    let a = 28 + 34 * m + 240 * used;
+    let e = a + 240;
+    !copy::all_bytes(&image[a..e], 32)
+}
+
+// The verdict of slot k of a log of so many used slots.
+fn verdict(condition: u8, k: usize, used: usize, unfinished: bool) -> u8
+    requires { ⌜ k < 64 ⌝ }
+    ensures { λ r. ⌜ ((a : Condition) (fresh : Bool) → condition ≡ conditionNumber a → (k ≡ used → unfinished ≡ not fresh) → r ≡ verdictOf used k a fresh) ⌝ }
+{
+    if condition == 4 {
+        return 0;
+    }
+    if condition == 3 {
+        if k + 1 == used {
+            return 4;
+        }
+        return 3;
+    }
+    if condition == 0 {
+        if k != used {
+            return 0;
+        }
+        if unfinished {
+            return 5;
+        }
+        return 0;
+    }
+    condition
+}
+
+// Gives the caller the epochs of its slots.
+fn fill_epochs(seen: &[u32; 64], epochs: &mut [u32])
+    requires { ⌜ length (now epochs) ≤ 64 ⌝ }
+    ensures { λ _. ⌜ now (epochs .exit) ≡ listed (length (now (epochs .entry))) (λ k. getD (now (seen .entry)) k 0) ⌝ }
+{
+    let mut k: usize = 0;
+    while k < epochs.len() {
+        epochs[k] = seen[k];
+        k += 1;
+    }
+}
+
+// Gives the caller the verdicts of its slots.
+fn fill_verdicts(conditions: &[u8; 64], used: usize, unfinished: bool, verdicts: &mut [u8])
+    requires { ⌜ length (now verdicts) ≤ 64 ⌝ }
+    ensures { λ _. ⌜ ((i : Image) → Marked (length (now (verdicts .entry))) i used (now (conditions .entry)) unfinished
+        → now (verdicts .exit) ≡ verdictsOf (length (now (verdicts .entry))) i) ⌝ }
+{
+    let mut k: usize = 0;
+    while k < verdicts.len() {
+        verdicts[k] = verdict(conditions[k], k, used, unfinished);
+        k += 1;
+    }
+}
+
+// Reads an image: its log's length, and into the lent buffers the epoch and the verdict of each slot.
+pub fn read_image(
+    image: &[u8],
+    replica: usize,
+    n: usize,
+    m: usize,
+    epochs: &mut [u32],
+    verdicts: &mut [u8],
+) -> ReadAnswer
+    ensures { λ r. ⌜ (r ≡ readAnswer (lentRefusal replica n m (now (image .entry)) (length (now (epochs .entry))) (length (now (verdicts .entry)))) (logLength m (decodeImage replica n m (now (image .entry)))))
+        × (now (epochs .exit) ≡ cond (eqb (lentRefusal replica n m (now (image .entry)) (length (now (epochs .entry))) (length (now (verdicts .entry)))) 0) (epochsOf m (decodeImage replica n m (now (image .entry)))) (now (epochs .entry)))
+        × (now (verdicts .exit) ≡ cond (eqb (lentRefusal replica n m (now (image .entry)) (length (now (epochs .entry))) (length (now (verdicts .entry)))) 0) (verdictsOf m (decodeImage replica n m (now (image .entry)))) (now (verdicts .entry))) ⌝ }
+{
+    let view = open_image(image, replica, n, m);
+    let refusal = view.refusal;
+    if refusal != 0 {
+        return ReadAnswer::Refused(refusal);
+    }
+    if epochs.len() != m {
+        return ReadAnswer::Refused(13);
+    }
+    if verdicts.len() != m {
+        return ReadAnswer::Refused(13);
+    }
+    let used = view.length;
+    let conditions = view.conditions;
+    let seen = view.epochs;
+    let unfinished = is_unfinished(image, m, used);
+    fill_epochs(&seen, epochs);
+    fill_verdicts(&conditions, used, unfinished, verdicts);
+    ReadAnswer::Length(used)
+}
+
+// Whether a slot, by its number, is whole.
+fn is_whole(conditions: &[u8; 64], m: usize, slot: usize) -> bool
+    requires { ⌜ m ≤ 64 ⌝ }
+    ensures { λ r. ⌜ ((i : Image) → take m (now (conditions .entry)) ≡ conditionsOf m i → r ≡ hasPayload m i slot) ⌝ }
+{
+    if slot < 1 {
+        return false;
+    }
+    if m < slot {
+        return false;
+    }
+    let condition = conditions[slot - 1];
+    if condition == 1 {
+        return true;
+    }
+    condition == 2
+}
+
+// Whether a slot has a payload.
+pub fn has_payload(image: &[u8], replica: usize, n: usize, m: usize, slot: usize) -> PayloadAnswer
+    ensures { λ r. ⌜ r ≡ payloadAnswer (readRefusal replica n m (now (image .entry))) (hasPayload m (decodeImage replica n m (now (image .entry))) slot) ⌝ }
+{
+    let view = open_image(image, replica, n, m);
+    let refusal = view.refusal;
+    if refusal != 0 {
+        return PayloadAnswer::Refused(refusal);
+    }
+    let conditions = view.conditions;
+    if is_whole(&conditions, m, slot) {
+        return PayloadAnswer::Present;
+    }
+    PayloadAnswer::Absent
+}
+
+// Where the payload of slot k, counted from 0, stands if it is whole.
+fn entry_span(image: &[u8], m: usize, k: usize) -> Span
+    requires { ⌜ (m ≤ 64) × (k < m) × (length (now image) ≡ imageSize m) ⌝ }
+    ensures { λ r. ⌜ SpanIn (length (now (image .entry))) (r .start) (r .end)
+        × ((c n : ℕ) → isWhole (conditionAt (decodeImage c n m (now (image .entry))) k) ≡ true
+        → (part (now (image .entry)) (r .start) (r .end - r .start) ≡ entryPayload (part (now (image .entry)) (entryAt m k) 240)) × (r .start ≡ entryAt m k + 26)) ⌝ }
+{
+    let EntryState::Intact(_epoch, size) = entry_state(image, m, k) else {
+        return Span { start: 0, end: 0 };
+    };
+    let start = 28 + 34 * m + 240 * k + 26;
+    Span {
+        start,
+        end: start + size,
+    }
+}
+
+// Where the payload of a slot stands, or an empty span at 0.
+pub fn payload_span(image: &[u8], replica: usize, n: usize, m: usize, slot: usize) -> Span
+    ensures { λ r. ⌜ SpanIn (length (now (image .entry))) (r .start) (r .end)
+        × ((part (now (image .entry)) (r .start) (r .end - r .start) ≡ payloadOf replica n m (now (image .entry)) slot)
+        × (r .start ≡ payloadAt replica n m (now (image .entry)) slot)) ⌝ }
+{
+    let view = open_image(image, replica, n, m);
+    let refusal = view.refusal;
+    if refusal != 0 {
+        return Span { start: 0, end: 0 };
+    }
+    let conditions = view.conditions;
+    if !is_whole(&conditions, m, slot) {
+        return Span { start: 0, end: 0 };
+    }
+    entry_span(image, m, slot - 1)
+}
+
+// The payload of a slot: its part of the image, or the empty part.
+pub fn payload_of(image: &[u8], replica: usize, n: usize, m: usize, slot: usize) -> &[u8]
+    ensures { λ r. ⌜ now r ≡ payloadOf replica n m (now (image .entry)) slot ⌝ }
+{
+    let span = payload_span(image, replica, n, m, slot);
+    let start = span.start;
+    let end = span.end;
+    &image[start..end]
+}

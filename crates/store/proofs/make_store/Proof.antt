@@ -1,0 +1,69 @@
+-- `make_store` makes the store that it is told.
+use Rattle.recovery.proofs.MadeLaws.{nothing-made, entry-made, record-made, blank-made}
+use native.Mathlib.Omega.{arith}
+use borrow.Author.Needs.{needs}
+use Rattle.store.proofs.make_store.Statement.{statement}
+use Rattle.store.proofs.make_store.Tie as tie
+
+enum-told : tie.Need-enum-told
+enum-told c = search needs
+
+enum-known-store : tie.Need-enum-known-store
+enum-known-store c = search needs
+
+copy-entry-requires : tie.Need-copy-entry-requires
+copy-entry-requires c κs = rw (c .before .before .store .given .1) at (c .before .before .before .before .before .pre .1)
+
+enum-known-store-2 : tie.Need-enum-known-store-2
+enum-known-store-2 c = search needs
+
+write-record-requires : tie.Need-write-record-requires
+write-record-requires c κs =
+    let f = rw (c .before .before .store2 .given .1) at (c .before .before .before .before .before .pre .1) in
+    (omega arith, f .0, f .1)
+
+enum-known-store-3 : tie.Need-enum-known-store-3
+enum-known-store-3 c = search needs
+
+blank-record-requires : tie.Need-blank-record-requires
+blank-record-requires c κs = rw (c .before .before .store3 .given .1) at (c .before .before .before .before .before .pre .1)
+
+returns : tie.Need-returns
+returns c = nothing-made _ _ (c .enum-told .given .1)
+
+same-length : tie.Need-same-length
+same-length c = search needs
+
+returns-2 : tie.Need-returns-2
+returns-2 c = entry-made _ _ (c .before .before .before .before .before .store .given .1) (c .before .before .copy-entry .ensures)
+
+same-length-2 : tie.Need-same-length-2
+same-length-2 c = search needs
+
+returns-3 : tie.Need-returns-3
+returns-3 c = record-made _ _ (c .before .before .before .before .before .store2 .given .1) (c .before .before .write-record .ensures)
+
+same-length-3 : tie.Need-same-length-3
+same-length-3 c = search needs
+
+returns-4 : tie.Need-returns-4
+returns-4 c = blank-made _ _ (c .before .before .before .before .before .store3 .given .1) (c .before .before .blank-record .ensures)
+
+pub make-store-spec : {M : Type 1} → statement M
+make-store-spec =
+    tie.close
+    (tie.spec
+    enum-told
+    enum-known-store
+    copy-entry-requires
+    enum-known-store-2
+    write-record-requires
+    enum-known-store-3
+    blank-record-requires
+    returns
+    same-length
+    returns-2
+    same-length-2
+    returns-3
+    same-length-3
+    returns-4)

@@ -1,0 +1,62 @@
+use mathlib.Core.Path.{sym, _∙_}
+use borrow.Author.Tests.{not-true, not-false}
+use Rattle.image.proofs.CallLaws.{slots-few, slots-many, is-slots}
+use Rattle.planner.proofs.SeenLaws.{size-le}
+use Rattle.planner.proofs.ShapeLaws.{shape-slots, shape-size, shape-bytes, shape-set, shape-none, cluster-fits}
+use native.Mathlib.Omega.{arith}
+use borrow.Author.Needs.{needs}
+use Rattle.survey.proofs.cluster.shape_refusal.Statement.{statement}
+use Rattle.survey.proofs.cluster.shape_refusal.Tie as tie
+
+returns : tie.Need-returns
+returns c = shape-slots _ _ _ _ (slots-few _ (c .if1 .taken))
+
+returns-2 : tie.Need-returns-2
+returns-2 c = shape-slots _ _ _ _ (slots-many _ (c .if2 .taken))
+
+is-size-requires : tie.Need-is-size-requires
+is-size-requires c κs = search needs
+
+returns-3 : tie.Need-returns-3
+returns-3 c = shape-size _ _ _ _ (is-slots _ (c .before .before .before .if1 .left) (c .before .before .if2 .left)) (sym (c .before .is-size .ensures) ∙ not-true _ (c .if3 .taken))
+
+mul-if4 : tie.Need-mul-if4
+mul-if4 c = search needs
+
+add-if4 : tie.Need-add-if4
+add-if4 c = search needs
+
+mul-if4-2 : tie.Need-mul-if4-2
+mul-if4-2 c = omega (arith, cluster-fits (c .before .before .before .before .args .n) (c .before .before .before .before .args .m) (size-le _ (sym (c .before .is-size .ensures) ∙ not-false _ (c .if3 .left))) (omega arith))
+
+returns-4 : tie.Need-returns-4
+returns-4 c = shape-bytes _ _ _ _ (is-slots _ (c .before .before .before .before .if1 .left) (c .before .before .before .if2 .left)) (sym (c .before .before .is-size .ensures) ∙ not-false _ (c .before .if3 .left)) (c .if4 .taken)
+
+cast-if5 : tie.Need-cast-if5
+cast-if5 c = omega (arith, size-le (c .before .before .before .before .before .args .n) (sym (c .before .before .is-size .ensures) ∙ not-false _ (c .before .if3 .left)))
+
+shr-if5 : tie.Need-shr-if5
+shr-if5 c = omega (arith, size-le (c .before .before .before .before .before .args .n) (sym (c .before .before .is-size .ensures) ∙ not-false _ (c .before .if3 .left)))
+
+returns-5 : tie.Need-returns-5
+returns-5 c = shape-set _ _ _ _ (is-slots _ (c .before .before .before .before .before .if1 .left) (c .before .before .before .before .if2 .left)) (sym (c .before .before .before .is-size .ensures) ∙ not-false _ (c .before .before .if3 .left)) (c .before .if4 .left) (c .if5 .taken)
+
+returns-6 : tie.Need-returns-6
+returns-6 c = shape-none _ _ _ _ (is-slots _ (c .before .before .before .before .before .if1 .left) (c .before .before .before .before .if2 .left)) (sym (c .before .before .before .is-size .ensures) ∙ not-false _ (c .before .before .if3 .left)) (c .before .if4 .left) (c .if5 .left)
+
+pub shape-refusal-spec : {M : Type 1} → statement M
+shape-refusal-spec =
+    tie.close
+    (tie.spec
+    returns
+    returns-2
+    is-size-requires
+    returns-3
+    mul-if4
+    add-if4
+    mul-if4-2
+    returns-4
+    cast-if5
+    shr-if5
+    returns-5
+    returns-6)

@@ -1,0 +1,80 @@
+// A cluster's refusals, and its survey. Planning, step and run share them.
+ghost use Prim.Native.Nat.{_-_, _≤_};
+ghost use mathlib.Core.Path.{_≡_};
+ghost use Rattle.planner.specs.Setting.{settingOf};
+ghost use Rattle.planner.specs.Plan.{viewsIn, clusterRefusal};
+ghost use Rattle.planner.specs.Survey.{SurveyOf};
+ghost use Rattle.planner.specs.Answers.{shapeRefusal, leaderRefusal};
+use crate::sets::contains;
+use crate::survey_cluster;
+use planner::Survey;
+
+// A cluster's refusal, 0 if it has none; and if it has none, its survey.
+pub struct ClusterView {
+    pub refusal: u8,
+    pub survey: Survey,
+}
+
+// Refusals 1, 2, 3 and 11: what is named, and the size of the buffer.
+fn shape_refusal(size: usize, n: usize, m: usize, present: u32) -> u8
+    ensures { λ r. ⌜ r ≡ shapeRefusal n m present size ⌝ }
+{
+    if m < 1 {
+        return 1;
+    }
+    if 64 < m {
+        return 1;
+    }
+    if !view::is_size(n) {
+        return 2;
+    }
+    if size != (28 + 274 * m) * n {
+        return 3;
+    }
+    if (present >> n) != 0 {
+        return 11;
+    }
+    0
+}
+
+// Refusal 12: the leader's number, from 1, is out of range, or the replica is not readable.
+fn leader_refusal(readable: u32, n: usize, leader: usize) -> u8
+    requires { ⌜ n ≤ 7 ⌝ }
+    ensures { λ r. ⌜ r ≡ leaderRefusal readable n leader ⌝ }
+{
+    if leader < 1 {
+        return 12;
+    }
+    if n < leader {
+        return 12;
+    }
+    if !contains(readable, leader - 1) {
+        return 12;
+    }
+    0
+}
+
+// The survey of no replica.
+fn no_survey() -> Survey {
+    Survey {
+        readable: 0,
+        lengths: [0usize; 7],
+        conditions: [0u8; 448],
+        epochs: [0u32; 448],
+    }
+}
+
+// Judges what a call names, and surveys the cluster if it can be read.
+pub fn view_cluster(cluster: &[u8], n: usize, m: usize, leader: usize, present: u32) -> ClusterView
+    ensures { λ r. ⌜ (r .refusal ≡ clusterRefusal n m leader present (now (cluster .entry)))
+        × (r .refusal ≡ 0 → SurveyOf (settingOf n m leader present) (viewsIn (settingOf n m leader present) (now (cluster .entry))) n (leader - 1) (r .survey .readable) (r .survey .lengths) (r .survey .conditions) (r .survey .epochs)) ⌝ }
+{
+    let refusal = shape_refusal(cluster.len(), n, m, present);
+    if refusal != 0 {
+        let survey = no_survey();
+        return ClusterView { refusal, survey };
+    }
+    let survey = survey_cluster(cluster, n, m, present);
+    let refusal = leader_refusal(survey.readable, n, leader);
+    ClusterView { refusal, survey }
+}

@@ -1,0 +1,289 @@
+// What is seen of an image: the condition and epoch of each slot, the length of its log, and its refusals.
+ghost use Prim.Native.Nat.{ℕ, _<_, _≤_};
+ghost use mathlib.Core.Path.{_≡_};
+ghost use mathlib.Core.Bool.{true, not};
+ghost use mathlib.Core.List.{List};
+ghost use lib.ListN.{length};
+ghost use Rattle.record.specs.Meaning.{Entry, good, bad};
+ghost use Rattle.record.specs.Judged.{recordAnswer, entryAnswer};
+ghost use Rattle.image.specs.Image.{imageSize, decodeImage};
+ghost use Rattle.image.specs.View.{isSize, isSlots, callRefusal, imageRefusal, readRefusal};
+ghost use Rattle.image.specs.Seen.{Seen};
+ghost use Rattle.image.specs.Scan.{SlotIs, Scanned, lengthIn, noGapIn, noneLostIn, risingIn, scanRefusal};
+use record::EntryState;
+use record::RecordState;
+
+// One slot as the scan sees it: its condition's number and its epoch.
+struct Slot {
+    condition: u8,
+    epoch: u32,
+}
+
+// Every slot of an image; those from m on are 0.
+struct Slots {
+    conditions: [u8; 64],
+    epochs: [u32; 64],
+}
+
+// What is seen of an image: its refusal, 0 if it has none. If it has none, the log's length, and for each slot its
+// condition's number and its epoch.
+pub struct ImageView {
+    pub refusal: u8,
+    pub length: usize,
+    pub conditions: [u8; 64],
+    pub epochs: [u32; 64],
+}
+
+// Whether a cluster may have n replicas.
+pub fn is_size(n: usize) -> bool
+    ensures { λ r. ⌜ r ≡ isSize n ⌝ }
+{
+    if n == 3 {
+        return true;
+    }
+    if n == 5 {
+        return true;
+    }
+    n == 7
+}
+
+// Refusals 1 to 3: what the caller names, and the size of the buffer.
+pub fn call_refusal(replica: usize, n: usize, m: usize, size: usize) -> u8
+    ensures { λ r. ⌜ r ≡ callRefusal replica n m size ⌝ }
+{
+    if m < 1 {
+        return 1;
+    }
+    if 64 < m {
+        return 1;
+    }
+    if !is_size(n) {
+        return 2;
+    }
+    if replica < 1 {
+        return 2;
+    }
+    if n < replica {
+        return 2;
+    }
+    if size != 28 + 274 * m {
+        return 3;
+    }
+    0
+}
+
+// The log's length: the first slot that is unused.
+fn log_length(conditions: &[u8; 64], m: usize) -> usize
+    requires { ⌜ m ≤ 64 ⌝ }
+    ensures { λ r. ⌜ r ≡ lengthIn m (now (conditions .entry)) ⌝ }
+{
+    let mut k: usize = 0;
+    while k < m {
+        if conditions[k] == 0 {
+            return k;
+        }
+        k += 1;
+    }
+    k
+}
+
+// Whether a slot behind the log's end is used.
+fn has_gap(conditions: &[u8; 64], m: usize, length: usize) -> bool
+    requires { ⌜ (m ≤ 64) × (length ≤ m) ⌝ }
+    ensures { λ r. ⌜ r ≡ not (noGapIn m length (now (conditions .entry))) ⌝ }
+{
+    let mut k = length;
+    while k < m {
+        if conditions[k] != 0 {
+            return true;
+        }
+        k += 1;
+    }
+    false
+}
+
+// Whether a slot has lost both its record and its entry.
+fn has_lost(conditions: &[u8; 64], m: usize) -> bool
+    requires { ⌜ m ≤ 64 ⌝ }
+    ensures { λ r. ⌜ r ≡ not (noneLostIn m (now (conditions .entry))) ⌝ }
+{
+    let mut k: usize = 0;
+    while k < m {
+        if conditions[k] == 4 {
+            return true;
+        }
+        k += 1;
+    }
+    false
+}
+
+// Whether a used slot's epoch is below the one before it.
+fn falls(epochs: &[u32; 64], m: usize, length: usize) -> bool
+    requires { ⌜ (m ≤ 64) × (length ≤ m) ⌝ }
+    ensures { λ r. ⌜ r ≡ not (risingIn m length (now (epochs .entry))) ⌝ }
+{
+    let mut k: usize = 0;
+    while k + 1 < length {
+        if epochs[k + 1] < epochs[k] {
+            return true;
+        }
+        k += 1;
+    }
+    false
+}
+
+// Refusals 5 to 7, each over the whole image.
+fn scan_refusal(conditions: &[u8; 64], epochs: &[u32; 64], m: usize, length: usize) -> u8
+    requires { ⌜ (m ≤ 64) × (length ≤ m) ⌝ }
+    ensures { λ r. ⌜ r ≡ scanRefusal m length (now (conditions .entry)) (now (epochs .entry)) ⌝ }
+{
+    if has_gap(conditions, m, length) {
+        return 5;
+    }
+    if has_lost(conditions, m) {
+        return 6;
+    }
+    if falls(epochs, m, length) {
+        return 7;
+    }
+    0
+}
+
+// The record of slot k.
+fn record_state(image: &[u8], m: usize, k: usize) -> RecordState
+    requires { ⌜ (m ≤ 64) × (k < m) × (length (now image) ≡ imageSize m) ⌝ }
+    ensures { λ r. ⌜ ((c n : ℕ) → r ≡ recordAnswer (decodeImage c n m (now (image .entry)) .records k)) ⌝ }
+{
+    let a = 28 + 34 * k;
+    let e = a + 34;
+    judge::judge_record(&image[a..e], (k + 1) as u32)
+}
+
+// The entry of slot k, judged by the part of the image that begins at its own start.
+pub fn entry_state(image: &[u8], m: usize, k: usize) -> EntryState
+    requires { ⌜ (m ≤ 64) × (k < m) × (length (now image) ≡ imageSize m) ⌝ }
+    ensures { λ r. ⌜ ((c n : ℕ) → r ≡ entryAnswer (decodeImage c n m (now (image .entry)) .entries k)) ⌝ }
+{
+    let a = 28 + 34 * m + 240 * k;
+    let e = a + 240;
+    judge::judge_entry(&image[a..e], (k + 1) as u32)
+}
+
+// A slot whose record is good: whole if its entry is intact and of the same epoch, else faulty.
+fn good_slot(epoch: u32, entry: EntryState) -> Slot
+    ensures { λ r. ⌜ ((x : Entry) → entry ≡ entryAnswer x → SlotIs (good epoch) x (r .condition) (r .epoch)) ⌝ }
+{
+    let EntryState::Intact(written, _size) = entry else {
+        return Slot {
+            condition: 3,
+            epoch,
+        };
+    };
+    if written == epoch {
+        return Slot {
+            condition: 1,
+            epoch,
+        };
+    }
+    Slot {
+        condition: 3,
+        epoch,
+    }
+}
+
+// A slot whose record is bad: its entry still has the epoch, or it is lost.
+fn bad_slot(entry: EntryState) -> Slot
+    ensures { λ r. ⌜ ((b : List ℕ) (x : Entry) → entry ≡ entryAnswer x → SlotIs (bad b) x (r .condition) (r .epoch)) ⌝ }
+{
+    let EntryState::Intact(epoch, _size) = entry else {
+        return Slot {
+            condition: 4,
+            epoch: 0,
+        };
+    };
+    Slot {
+        condition: 2,
+        epoch,
+    }
+}
+
+// One slot of the scan. A blank record's entry is not judged.
+fn slot_at(image: &[u8], m: usize, k: usize) -> Slot
+    requires { ⌜ (m ≤ 64) × (k < m) × (length (now image) ≡ imageSize m) ⌝ }
+    ensures { λ r. ⌜ ((c n : ℕ) → SlotIs (decodeImage c n m (now (image .entry)) .records k) (decodeImage c n m (now (image .entry)) .entries k) (r .condition) (r .epoch)) ⌝ }
+{
+    let record = record_state(image, m, k);
+    let RecordState::Good(epoch) = record else {
+        if let RecordState::Blank = record {
+            return Slot {
+                condition: 0,
+                epoch: 0,
+            };
+        }
+        return bad_slot(entry_state(image, m, k));
+    };
+    good_slot(epoch, entry_state(image, m, k))
+}
+
+// Every slot of an image.
+fn scan(image: &[u8], m: usize) -> Slots
+    requires { ⌜ (m ≤ 64) × (length (now image) ≡ imageSize m) ⌝ }
+    ensures { λ r. ⌜ ((c n : ℕ) → Scanned m (decodeImage c n m (now (image .entry))) (r .conditions) (r .epochs)) ⌝ }
+{
+    let mut conditions = [0u8; 64];
+    let mut epochs = [0u32; 64];
+    let mut k: usize = 0;
+    while k < m {
+        let slot = slot_at(image, m, k);
+        conditions[k] = slot.condition;
+        epochs[k] = slot.epoch;
+        k += 1;
+    }
+    Slots { conditions, epochs }
+}
+
+// The view of a refused image.
+fn refused_view(refusal: u8) -> ImageView
+    ensures { λ r. ⌜ r .refusal ≡ refusal ⌝ }
+{
+    ImageView {
+        refusal,
+        length: 0,
+        conditions: [0u8; 64],
+        epochs: [0u32; 64],
+    }
+}
+
+// Views an image whose numbers and size were judged.
+pub fn view_image(image: &[u8], replica: usize, n: usize, m: usize) -> ImageView
+    requires { ⌜ (isSlots m ≡ true) × (length (now image) ≡ imageSize m) ⌝ }
+    ensures { λ r. ⌜ (r .refusal ≡ imageRefusal m (decodeImage replica n m (now (image .entry))))
+        × (r .refusal ≡ 0 → Seen m (decodeImage replica n m (now (image .entry))) (r .length) (r .conditions) (r .epochs)) ⌝ }
+{
+    if !judge::is_header(&image[0..28], replica, n, m) {
+        return refused_view(4);
+    }
+    let seen = scan(image, m);
+    let conditions = seen.conditions;
+    let epochs = seen.epochs;
+    let length = log_length(&conditions, m);
+    let refusal = scan_refusal(&conditions, &epochs, m, length);
+    ImageView {
+        refusal,
+        length,
+        conditions,
+        epochs,
+    }
+}
+
+// Views an image as the caller names it: refusals 1 to 7.
+pub fn open_image(image: &[u8], replica: usize, n: usize, m: usize) -> ImageView
+    ensures { λ r. ⌜ (r .refusal ≡ readRefusal replica n m (now (image .entry)))
+        × (r .refusal ≡ 0 → Seen m (decodeImage replica n m (now (image .entry))) (r .length) (r .conditions) (r .epochs)) ⌝ }
+{
+    let refusal = call_refusal(replica, n, m, image.len());
+    if refusal != 0 {
+        return refused_view(refusal);
+    }
+    view_image(image, replica, n, m)
+}
