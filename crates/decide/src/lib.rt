@@ -7,16 +7,10 @@ ghost use Rattle.planner.specs.Survey.{SurveyOf, Planned};
 use crate::rules::first_waiting;
 use crate::rules::mark_truncated;
 use crate::rules::walk_slots;
+use planner::Plan;
 use planner::Survey;
 
 mod rules; // rules.rt: what the replicas answer, and the plan of each slot
-
-// The leader's plan: a byte for each slot, the end of its log, and the lowest slot below that waits (the end if none does).
-pub struct Plan {
-    pub bytes: [u8; 64],
-    pub end: usize,
-    pub waiting: usize,
-}
 
 // The plan of whatever views the survey is of. The leader counts from 0.
 pub fn plan_survey(s: Survey, n: usize, leader: usize) -> Plan

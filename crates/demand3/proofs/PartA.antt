@@ -8,7 +8,7 @@ use native.Mathlib.Omega.{arith}
 use Rattle.slices.specs.Parts.{Bytes}
 use Rattle.planner.specs.Setting.{settingOf}
 use Rattle.planner.specs.Rules.{Ready, answer}
-use Rattle.planner.specs.Plan.{viewsIn, planRefusal}
+use Rattle.planner.specs.Plan.{viewsIn, lentRefusal, planRefusal}
 use Rattle.protocol.specs.StepBytes.{nextIn, stepsBytes, storesBytes}
 use Rattle.demand3.specs.CallList.{Request, CallList}
 use Rattle.protocol.specs.Call.{plan, run, Numbers, named, refusalIn, refusalOf}
@@ -42,7 +42,7 @@ same-still N b r s q = record {
 -- the planner is told the same
 plan-same : (N : Numbers) (b₀ b : Bytes) → refusalIn N b ≡ refusalIn N b₀ → answer (named N) (viewsIn (named N) b) ≡ answer (named N) (viewsIn (named N) b₀)
     → (i j : ℕ) → callResult N (plan i j) b ≡ callResult N (plan i j) b₀
-unfolding callResult acceptedResult refusalOf planRefusal
+unfolding callResult acceptedResult refusalOf planRefusal lentRefusal
 plan-same N b₀ b e a i j = rw (e, a)
 
 -- a run that is not spent leaves nothing outstanding

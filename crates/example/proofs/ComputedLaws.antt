@@ -14,7 +14,7 @@ use Rattle.image.specs.Read.{isWhole}
 use Rattle.image.specs.Cluster.{imageAt, imagePart, decode}
 use Rattle.planner.specs.Setting.{settingOf, has, viewsOf}
 use Rattle.planner.specs.Rules.{majority, mayTruncate, isFaulty, isRecordLost, isUsed, isTruncate, isFetch, isWait, answers, agrees, have, dontHave, donor, rule, end, firstWaiting, answer}
-use Rattle.planner.specs.Plan.{viewsIn, clusterRefusal, planRefusal}
+use Rattle.planner.specs.Plan.{viewsIn, shapeRefusal, clusterRefusal, lentRefusal, planRefusal}
 use Rattle.protocol.specs.Store.{sameEntry}
 use Rattle.protocol.specs.Recovery.{_or_, ifBelow, leaderStore, differs, firstDiffering, followerStore, isSome, firstOf, ifReady, unlike, due, followersStore, next, after}
 use Rattle.protocol.specs.StepBytes.{nextIn, afterStoreBytes, stepsBytes, storesBytes}
@@ -25,7 +25,7 @@ use Rattle.example.specs.Visited.{blankedOne, tornOne, fetchedOne, twoMo
 use Rattle.example.specs.Computed.{Computed}
 
 pub computed : Computed
-unfolding five payloadA payloadB payloadC noise scratch first second third fourth fifth damagedCluster lowest count sum oneIf all part spliced same sumA sumB checksumOf digits column digitStep valueFrom valueOf sealed headerBytes recordBytes blankRecord padded entryBytes freshEntry isEpoch readHeader isGood recordEpoch readRecord isIntact entryEpoch entryPayload readEntry refuse _else_ imageSize recordAt entryAt decodeImage condition epochOf conditionAt epochAt isBlank isProper isLost logLength noGap noneLost rising imageRefusal viewOf isSize isReplica isSlots isWhole imageAt imagePart decode settingOf has viewsOf viewsIn clusterRefusal planRefusal refusalOf budgetOf majority mayTruncate isFaulty isRecordLost isUsed isTruncate isFetch isWait answers agrees have dontHave donor rule end firstWaiting answer sameEntry _or_ ifBelow leaderStore differs firstDiffering followerStore isSome firstOf ifReady unlike due followersStore next after nextIn afterStoreBytes stepsBytes storesBytes stepResult runResult answered acceptedResult callResult blankedOne tornOne fetchedOne twoMore lastStored lastCluster
+unfolding five payloadA payloadB payloadC noise scratch first second third fourth fifth damagedCluster lowest count sum oneIf all part spliced same sumA sumB checksumOf digits column digitStep valueFrom valueOf sealed headerBytes recordBytes blankRecord padded entryBytes freshEntry isEpoch readHeader isGood recordEpoch readRecord isIntact entryEpoch entryPayload readEntry refuse _else_ imageSize recordAt entryAt decodeImage condition epochOf conditionAt epochAt isBlank isProper isLost logLength noGap noneLost rising imageRefusal viewOf isSize isReplica isSlots isWhole imageAt imagePart decode settingOf has viewsOf viewsIn shapeRefusal clusterRefusal lentRefusal planRefusal refusalOf budgetOf majority mayTruncate isFaulty isRecordLost isUsed isTruncate isFetch isWait answers agrees have dontHave donor rule end firstWaiting answer sameEntry _or_ ifBelow leaderStore differs firstDiffering followerStore isSome firstOf ifReady unlike due followersStore next after nextIn afterStoreBytes stepsBytes storesBytes stepResult runResult answered acceptedResult callResult blankedOne tornOne fetchedOne twoMore lastStored lastCluster
 computed = record {
   next-first = refl;
   next-torn = refl;

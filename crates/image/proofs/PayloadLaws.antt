@@ -19,7 +19,8 @@ use Rattle.record.proofs.EntryLaws.{intact-for, intact-payload, intact-part}
 use Rattle.image.specs.declared.PayloadAnswer.the-variants as payload
 use Rattle.image.specs.Image.{Image, imageSize, entryAt, decodeImage}
 use Rattle.image.specs.View.{Condition, Unused, Whole, RecordLost, Faulty, Lost, condition, conditionAt, readRefusal}
-use Rattle.image.specs.Seen.{conditionNumber, conditionsOf}
+use Rattle.image.specs.View.{conditionNumber}
+use Rattle.image.specs.Seen.{conditionsOf}
 use Rattle.image.specs.Scan.{SpanIn}
 use Rattle.image.specs.Read.{isWhole, hasPayload, payloadOf, payloadAt}
 use Rattle.image.specs.Answers.{payloadAnswer}

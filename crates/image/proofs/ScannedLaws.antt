@@ -16,7 +16,8 @@ use Rattle.record.specs.Meaning.{Record, good, blank, bad, Entry, intact, broke
 use Rattle.image.specs.Refusal.{refuse, _else_}
 use Rattle.image.specs.Image.{Image}
 use Rattle.image.specs.View.{Condition, Unused, Whole, RecordLost, Faulty, Lost, condition, conditionAt, epochAt, isBlank, isLost, logLength, noGap, noneLost, rising}
-use Rattle.image.specs.Seen.{conditionNumber, conditionsOf}
+use Rattle.image.specs.View.{conditionNumber}
+use Rattle.image.specs.Seen.{conditionsOf}
 use Rattle.image.specs.Scan.{Scanned, lengthIn, noGapIn, noneLostIn, risingIn, scanRefusal}
 use Rattle.image.proofs.ViewLaws.{length-le}
 

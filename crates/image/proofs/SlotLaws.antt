@@ -21,7 +21,8 @@ use Rattle.record.specs.declared.EntryState.the-variants.{Intact, Broken}
 use Rattle.record.proofs.RecordState.{the-type}
 use Rattle.image.specs.Image.{Image, imageSize, recordAt, entryAt, decodeImage}
 use Rattle.image.specs.View.{condition, epochOf, conditionAt, epochAt}
-use Rattle.image.specs.Seen.{conditionNumber, conditionsOf}
+use Rattle.image.specs.View.{conditionNumber}
+use Rattle.image.specs.Seen.{conditionsOf}
 use Rattle.image.specs.Scan.{SlotIs, Scanned}
 use Rattle.image.proofs.DecodeLaws.{record-there, entry-there, record-fits, entry-fits}
 

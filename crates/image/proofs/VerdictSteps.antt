@@ -18,7 +18,8 @@ use Rattle.record.specs.Exactly.{EntryIs}
 use Rattle.record.proofs.EntryLaws.{entry-is, fresh-not-intact}
 use Rattle.image.specs.Image.{Image, imageSize, entryAt, decodeImage}
 use Rattle.image.specs.View.{Condition, Unused, Whole, RecordLost, Faulty, Lost, conditionAt}
-use Rattle.image.specs.Seen.{conditionNumber, conditionsOf}
+use Rattle.image.specs.View.{conditionNumber}
+use Rattle.image.specs.Seen.{conditionsOf}
 use Rattle.image.specs.Verdict.{isFresh, verdictOf, verdictAt}
 use Rattle.image.specs.Scan.{Marked}
 use Rattle.image.specs.Read.{verdictsOf}

@@ -5,7 +5,7 @@ use mathlib.Core.List.{List, [], _++_}
 use lib.Dec.{ltb}
 use Rattle.search.specs.Search.{put, joined}
 use Rattle.slices.specs.Parts.{Bytes, part}
-use Rattle.record.specs.Layout.{headerBytes, blankRecord, freshEntry}
+use Rattle.record.specs.Layout.{headerSize, recordSize, entrySize, headerBytes, blankRecord, freshEntry}
 use Rattle.record.specs.Meaning.{Header, Record, blank, Entry, broken, readHeader, readRecord, readEntry, writeHeader, writeRecord, writeEntry}
 
 pub record Image : Type 0 where
@@ -15,20 +15,20 @@ pub record Image : Type 0 where
 
 -- an image of m slots is 28 + 274 × m bytes: the header, the records, the entries
 unfoldable pub imageSize : ℕ → ℕ
-imageSize m = 28 + 34 * m + 240 * m
+imageSize m = headerSize + recordSize * m + entrySize * m
 
 unfoldable pub recordAt : ℕ → ℕ
-recordAt k = 28 + 34 * k
+recordAt k = headerSize + recordSize * k
 
 unfoldable pub entryAt : ℕ → ℕ → ℕ
-entryAt m k = 28 + 34 * m + 240 * k
+entryAt m k = headerSize + recordSize * m + entrySize * k
 
 -- what the bytes of the image of replica c (from 1), of n, with m slots mean
 unfoldable pub decodeImage : ℕ → ℕ → ℕ → Bytes → Image
 decodeImage c n m b = record {
-  header = readHeader c n m (part b 0 28);
-  records = λ k. cond (ltb k m) (readRecord (suc k) (part b (recordAt k) 34)) blank;
-  entries = λ k. cond (ltb k m) (readEntry (suc k) (part b (entryAt m k) 240)) (broken []);
+  header = readHeader c n m (part b 0 headerSize);
+  records = λ k. cond (ltb k m) (readRecord (suc k) (part b (recordAt k) recordSize)) blank;
+  entries = λ k. cond (ltb k m) (readEntry (suc k) (part b (entryAt m k) entrySize)) (broken []);
 }
 
 unfoldable pub encodeImage : ℕ → ℕ → ℕ → Image → Bytes

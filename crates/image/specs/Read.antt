@@ -9,7 +9,7 @@ use Rattle.slices.specs.Parts.{Bytes, part}
 use Rattle.record.specs.Meaning.{Entry, intact, broken, entryPayload}
 use Rattle.image.specs.Refusal.{refuse, _else_}
 use Rattle.image.specs.Image.{Image, decodeImage, entryAt}
-use Rattle.image.specs.View.{readRefusal, logLength, epochAt, conditionAt, Condition, Unused, Whole, RecordLost, Faulty, Lost}
+use Rattle.image.specs.View.{readRefusal, logLength, epochAt, conditionAt, Condition, conditionNumber}
 use Rattle.image.specs.Verdict.{verdictAt}
 
 -- 13 if a lent buffer (epochs, verdicts) has the wrong length, after all else that applies
@@ -24,11 +24,7 @@ verdictsOf m i = listed m (verdictAt m i)
 
 -- verdicts 1 and 2
 unfoldable pub isWhole : Condition → Bool
-isWhole Unused = false
-isWhole Whole = true
-isWhole RecordLost = true
-isWhole Faulty = false
-isWhole Lost = false
+isWhole a = eqb (conditionNumber a) 1 || eqb (conditionNumber a) 2
 
 -- whether slot number s (from 1) has a payload
 unfoldable pub hasPayload : ℕ → Image → ℕ → Bool

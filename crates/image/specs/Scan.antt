@@ -11,7 +11,8 @@ use Rattle.image.specs.Refusal.{refuse, _else_}
 use Rattle.image.specs.Image.{Image}
 use Rattle.image.specs.View.{condition, epochOf, epochAt, logLength}
 use Rattle.image.specs.Verdict.{isFresh}
-use Rattle.image.specs.Seen.{conditionNumber, conditionsOf}
+use Rattle.image.specs.View.{conditionNumber}
+use Rattle.image.specs.Seen.{conditionsOf}
 
 -- one slot, of its record and its entry
 pub record SlotIs (r : Record) (x : Entry) (number epoch : ℕ) : Type 0 where

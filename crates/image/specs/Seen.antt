@@ -5,14 +5,7 @@ use mathlib.Core.List.{List}
 use lib.ListN.{take}
 use Rattle.search.specs.Search.{listed}
 use Rattle.image.specs.Image.{Image}
-use Rattle.image.specs.View.{Condition, Unused, Whole, RecordLost, Faulty, Lost, conditionAt, epochAt, logLength, imageRefusal}
-
-abbrev pub conditionNumber : Condition → ℕ
-conditionNumber Unused = 0
-conditionNumber Whole = 1
-conditionNumber RecordLost = 2
-conditionNumber Faulty = 3
-conditionNumber Lost = 4
+use Rattle.image.specs.View.{conditionNumber, conditionAt, epochAt, logLength}
 
 -- the numbers of the first m slots
 unfoldable pub conditionsOf : ℕ → Image → List ℕ

@@ -14,6 +14,14 @@ use Rattle.image.specs.Image.{Image, imageSize, decodeImage}
 pub data Condition : Type 0 where
   Unused Whole RecordLost Faulty Lost : Condition
 
+-- in code a condition is its number
+abbrev pub conditionNumber : Condition → ℕ
+conditionNumber Unused = 0
+conditionNumber Whole = 1
+conditionNumber RecordLost = 2
+conditionNumber Faulty = 3
+conditionNumber Lost = 4
+
 unfoldable pub condition : Record → Entry → Condition
 condition (good e) (intact f p) = cond (eqb e f) Whole Faulty
 condition (good e) (broken b) = Faulty
@@ -45,11 +53,7 @@ isProper proper = true
 isProper (improper b) = false
 
 unfoldable pub isLost : Condition → Bool
-isLost Unused = false
-isLost Whole = false
-isLost RecordLost = false
-isLost Faulty = false
-isLost Lost = true
+isLost a = eqb (conditionNumber a) 4
 
 -- the log's length: used slots come first, or the image is refused by 5
 unfoldable pub logLength : ℕ → Image → ℕ

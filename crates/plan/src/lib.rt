@@ -5,8 +5,8 @@ ghost use lib.ListN.{length, take};
 ghost use Rattle.image.specs.View.{View};
 ghost use Rattle.planner.specs.Setting.{Setting, settingOf};
 ghost use Rattle.planner.specs.Rules.{answer};
-ghost use Rattle.planner.specs.Plan.{viewsIn, planRefusal, planBytes};
-ghost use Rattle.planner.specs.Answers.{lentRefusal, answerAt, unlessRefused, planAnswer, rowsOf, Outcome};
+ghost use Rattle.planner.specs.Plan.{viewsIn, lentRefusal, planRefusal};
+ghost use Rattle.planner.specs.Answers.{answerAt, planCallAnswer, planLeft, rowsLeft, Outcome};
 use decide::plan_survey;
 use planner::PlanAnswer;
 use planner::ReplicaRow;
@@ -80,8 +80,9 @@ pub fn plan_bytes(
     present: u32,
     rows: usize,
 ) -> PlanOutcome
-    ensures { λ r. ⌜ Outcome (planRefusal n m leader present (now (cluster .entry)) (length (now (plan .entry))) rows) (settingOf n m leader present) (viewsIn (settingOf n m leader present) (now (cluster .entry))) (r .answer) (r .count) (r .rows)
-        × (now (plan .exit) ≡ unlessRefused (planRefusal n m leader present (now (cluster .entry)) (length (now (plan .entry))) rows) (planBytes (settingOf n m leader present) (viewsIn (settingOf n m leader present) (now (cluster .entry)))) (now (plan .entry))) ⌝ }
+    ensures { λ r. ⌜ Outcome (planRefusal n m leader present (now (cluster .entry)) (length (now (plan .entry))) rows)
+        (settingOf n m leader present) (viewsIn (settingOf n m leader present) (now (cluster .entry))) (r .answer) (r .count) (r .rows)
+        × (now (plan .exit) ≡ planLeft n m leader present (now (cluster .entry)) (now (plan .entry)) rows) ⌝ }
 {
     let view = view_cluster(cluster, n, m, leader, present);
     let refusal = lent_refusal(view.refusal, n, m, plan.len(), rows);
@@ -125,9 +126,9 @@ pub fn plan_cluster(
     plan: &mut [u8],
     rows: &mut [ReplicaRow],
 ) -> PlanAnswer
-    ensures { λ r. ⌜ (r ≡ planAnswer (planRefusal n m leader present (now (cluster .entry)) (length (now (plan .entry))) (length (now (rows .entry)))) (answer (settingOf n m leader present) (viewsIn (settingOf n m leader present) (now (cluster .entry)))))
-        × (now (plan .exit) ≡ unlessRefused (planRefusal n m leader present (now (cluster .entry)) (length (now (plan .entry))) (length (now (rows .entry)))) (planBytes (settingOf n m leader present) (viewsIn (settingOf n m leader present) (now (cluster .entry)))) (now (plan .entry)))
-        × (now (rows .exit) ≡ unlessRefused (planRefusal n m leader present (now (cluster .entry)) (length (now (plan .entry))) (length (now (rows .entry)))) (rowsOf (settingOf n m leader present) (viewsIn (settingOf n m leader present) (now (cluster .entry)))) (now (rows .entry))) ⌝ }
+    ensures { λ r. ⌜ (r ≡ planCallAnswer n m leader present (now (cluster .entry)) (length (now (plan .entry))) (length (now (rows .entry))))
+        × (now (plan .exit) ≡ planLeft n m leader present (now (cluster .entry)) (now (plan .entry)) (length (now (rows .entry))))
+        × (now (rows .exit) ≡ rowsLeft n m leader present (now (cluster .entry)) (length (now (plan .entry))) (now (rows .entry))) ⌝ }
 {
     let found = plan_bytes(plan, cluster, n, m, leader, present, rows.len());
     fill_rows(rows, found, outcome_count(found));

@@ -1,5 +1,5 @@
 -- Refusal 12, and all refusals of planning, step and run that come before what is lent.
-use Prim.Native.Nat.{ℕ, zero, suc, pred, _-_, _<_, _≤_}
+use Prim.Native.Nat.{ℕ, pred, _-_, _<_, _≤_}
 use mathlib.Core.Path.{_≡_, refl, sym, _∙_, ap}
 use mathlib.Core.Bool.{Bool, true, false, not, _&&_}
 use mathlib.Core.List.{List}
@@ -16,9 +16,8 @@ use Rattle.image.proofs.RefusalLaws.{refuse-zero, else-next, else-first, else-z
 use Rattle.image.proofs.ViewLaws.{length-le}
 use Rattle.image.proofs.CallLaws.{slots-high, replica-low, replica-high, is-replica}
 use Rattle.planner.specs.Setting.{Setting, has, settingOf, viewsOf}
-use Rattle.planner.specs.Plan.{viewsIn, clusterRefusal}
+use Rattle.planner.specs.Plan.{viewsIn, shapeRefusal, clusterRefusal}
 use Rattle.planner.specs.Survey.{Surveyed, SurveyOf}
-use Rattle.planner.specs.Answers.{shapeRefusal, leaderRefusal}
 use Rattle.planner.proofs.SeenLaws.{size-le}
 use Rattle.planner.proofs.ShapeLaws.{shaped-slots, shaped-size}
 
@@ -29,38 +28,33 @@ unfolding isReplica
 replica-below n leader q = omega (arith, leb-true 1 leader (and-left (leb 1 leader) (leb leader n) q), leb-true leader n (and-right (leb 1 leader) (leb leader n) q))
 
 module _ (readable n leader : ℕ) where
-  pub leader-low : leader < 1 → 12 ≡ leaderRefusal readable n leader
-  unfolding leaderRefusal refuse
+  pub leader-low : leader < 1 → 12 ≡ refuse 12 (not (isReplica n leader && has readable (pred leader)))
+  unfolding refuse
   leader-low h = rw (replica-low n leader h) refl
 
-  pub leader-high : n < leader → 12 ≡ leaderRefusal readable n leader
-  unfolding leaderRefusal refuse
+  pub leader-high : n < leader → 12 ≡ refuse 12 (not (isReplica n leader && has readable (pred leader)))
+  unfolding refuse
   leader-high h = rw (replica-high n leader h) refl
 
   pred-is : leader - 1 ≡ pred leader
   pred-is = omega arith
 
   module _ (lo : 1 ≤ leader) (hi : leader ≤ n) where
-    pub leader-off : has readable (leader - 1) ≡ false → 12 ≡ leaderRefusal readable n leader
-    unfolding leaderRefusal refuse
+    pub leader-off : has readable (leader - 1) ≡ false → 12 ≡ refuse 12 (not (isReplica n leader && has readable (pred leader)))
+    unfolding refuse
     leader-off e = rw (is-replica n leader lo hi, sym pred-is, e) refl
 
-    pub leader-on : has readable (leader - 1) ≡ true → 0 ≡ leaderRefusal readable n leader
-    unfolding leaderRefusal refuse
+    pub leader-on : has readable (leader - 1) ≡ true → 0 ≡ refuse 12 (not (isReplica n leader && has readable (pred leader)))
+    unfolding refuse
     leader-on e = rw (is-replica n leader lo hi, sym pred-is, e) refl
 
 -- ---- all of them
 
-else-assoc : (a b c : ℕ) → ((a else b) else c) ≡ (a else (b else c))
-unfolding _else_
-else-assoc zero b c = refl
-else-assoc (suc a) b c = refl
-
 module _ (n m leader present : ℕ) (b : Bytes) where
   cluster-is : clusterRefusal n m leader present b
       ≡ (shapeRefusal n m present (length b) else refuse 12 (not (isReplica n leader && viewsIn (settingOf n m leader present) b (pred leader) .readable)))
-  unfolding clusterRefusal shapeRefusal
-  cluster-is = sym (simp else-assoc)
+  unfolding clusterRefusal
+  cluster-is = refl
 
   pub cluster-shape : {r : ℕ} → r ≡ shapeRefusal n m present (length b) → (r ≡ 0 → ⊥) → r ≡ clusterRefusal n m leader present b
   cluster-shape e z = e ∙ sym (else-first _ _ (λ q. z (e ∙ q))) ∙ sym cluster-is
@@ -74,13 +68,12 @@ module _ (n m leader present : ℕ) (b : Bytes) where
         go true e = s .readable-is (pred leader) (replica-below n leader e)
         go false e = refl
 
-    pub cluster-leader : {r : ℕ} → r ≡ leaderRefusal readable n leader → r ≡ clusterRefusal n m leader present b
-    unfolding leaderRefusal
+    pub cluster-leader : {r : ℕ} → r ≡ refuse 12 (not (isReplica n leader && has readable (pred leader))) → r ≡ clusterRefusal n m leader present b
     cluster-leader e = e ∙ ap (λ (t : Bool). refuse 12 (not t)) leader-same ∙ sym (else-next _ z) ∙ sym cluster-is
 
-    pub cluster-survey : leaderRefusal readable n leader ≡ 0
+    pub cluster-survey : refuse 12 (not (isReplica n leader && has readable (pred leader))) ≡ 0
         → SurveyOf (settingOf n m leader present) (viewsIn (settingOf n m leader present) b) n (leader - 1) readable lengths conditions epochs
-    unfolding leaderRefusal settingOf viewsIn viewsOf viewOf
+    unfolding settingOf viewsIn viewsOf viewOf
     cluster-survey e = record {
       n-is = refl;
       leader-is = sym (pred-is readable n leader);
@@ -101,7 +94,14 @@ pub survey-asks : {S : Setting} {W : ℕ → View} {n leader readable : ℕ} {le
 survey-asks {S} {W} {n} {leader} o =
     (o .few, o .leader-below, omega (arith, o .surveyed .length-is leader (o .leader-below) (o .leader-reads), o .logs-fit leader, o .slots-fit))
 
--- a leader's number counts from 1
+-- the leader is a replica of the cluster, and is read
+pub leader-accepted : (n m leader present : ℕ) (b : Bytes) → clusterRefusal n m leader present b ≡ 0
+    → (pred leader < n) × (viewsIn (settingOf n m leader present) b (pred leader) .readable ≡ true)
+leader-accepted n m leader present b e =
+    let z = not-false _ (refuse-zero 11 _ (else-zero-r _ _ (sym (cluster-is n m leader present b) ∙ e))) in
+    (replica-below n leader (and-left (isReplica n leader) _ z), and-right (isReplica n leader) _ z)
+
+-- its number counts from 1
 pub leader-first : (n m leader present : ℕ) (b : Bytes) → clusterRefusal n m leader present b ≡ 0 → 1 ≤ leader
 unfolding isReplica
 leader-first n m leader present b e =

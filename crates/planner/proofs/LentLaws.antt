@@ -8,8 +8,7 @@ use Rattle.slices.specs.Parts.{Bytes}
 use Rattle.slices.proofs.SameLaws.{and-left, and-right}
 use Rattle.image.specs.Refusal.{refuse, _else_}
 use Rattle.image.proofs.RefusalLaws.{refuse-zero, else-first, else-zero-l, else-zero-r}
-use Rattle.planner.specs.Plan.{clusterRefusal, planRefusal}
-use Rattle.planner.specs.Answers.{lentRefusal}
+use Rattle.planner.specs.Plan.{clusterRefusal, lentRefusal, planRefusal}
 
 module _ (refusal n m bytes rows : ℕ) where
   pub lent-first : (refusal ≡ 0 → ⊥) → refusal ≡ lentRefusal refusal n m bytes rows

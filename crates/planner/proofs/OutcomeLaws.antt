@@ -11,15 +11,16 @@ use lib.Seq.{take-all}
 use borrow.Author.Tests.{eqb-true, eq-eqb, ne-eqb, lt-ltb, le-ltb}
 use Rattle.slices.specs.Parts.{Bytes}
 use Rattle.search.specs.Search.{listed}
+use Rattle.image.specs.Refusal.{unlessRefused}
 use Rattle.image.specs.View.{View}
 use Rattle.planner.specs.Setting.{Setting, settingOf, has}
 use Rattle.planner.specs.Rules.{Refused, Waiting, Ready, answer, end, firstWaiting}
-use Rattle.planner.specs.Plan.{viewsIn, planBytes, clusterRefusal, planRefusal}
+use Rattle.planner.specs.Plan.{viewsIn, planBytes, clusterRefusal, lentRefusal, planRefusal}
 use Rattle.planner.specs.declared.PlanAnswer.{PlanAnswer}
 use Rattle.planner.specs.declared.PlanAnswer.the-variants as plan
 use Rattle.planner.specs.declared.ReplicaRow.{ReplicaRow}
 use Rattle.planner.specs.Survey.{SurveyOf, Planned}
-use Rattle.planner.specs.Answers.{answered, answerAt, planAnswer, unlessRefused, rowsOf, frontRows, lentRefusal, numberRow, Outcome}
+use Rattle.planner.specs.Answers.{answered, answerAt, planAnswer, rowsOf, frontRows, numberRow, Outcome}
 use Rattle.planner.proofs.RowLaws.{lengths-fit, rows-are}
 use Rattle.planner.proofs.SeenLaws.{size-le}
 use Rattle.planner.proofs.ShapeLaws.{shaped-size}

@@ -13,7 +13,7 @@ use Rattle.search.specs.Search.{lowest, listed}
 use Rattle.search.proofs.SearchLaws.{lowest-passes, lowest-cong}
 use Rattle.search.proofs.ListedLaws.{length-listed, getD-listed, listed-ext, listed-cong}
 use Rattle.image.specs.View.{Condition, Unused, Whole, RecordLost, Faulty, Lost, View}
-use Rattle.image.specs.Seen.{conditionNumber}
+use Rattle.image.specs.View.{conditionNumber}
 use Rattle.planner.specs.Setting.{Setting}
 use Rattle.planner.specs.Rules.{isTruncate, isWait, Rule, Keep, Fetch, Truncate, Wait, rule, donor, end, firstWaiting}
 use Rattle.planner.specs.Plan.{keptByte, ruleByte, planByte, planBytes}

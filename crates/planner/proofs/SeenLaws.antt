@@ -16,7 +16,8 @@ use Rattle.slices.proofs.SpliceLaws.{part-lent}
 use Rattle.slices.proofs.SameLaws.{and-off, clash}
 use Rattle.image.specs.Image.{Image, imageSize, decodeImage}
 use Rattle.image.specs.View.{View, isSize, viewOf, imageRefusal, conditionAt, epochAt}
-use Rattle.image.specs.Seen.{Seen, conditionsOf, conditionNumber}
+use Rattle.image.specs.View.{conditionNumber}
+use Rattle.image.specs.Seen.{Seen, conditionsOf}
 use Rattle.image.specs.Cluster.{imageAt, imagePart, decode}
 use Rattle.image.proofs.DecodeLaws.{size-is}
 use Rattle.image.proofs.ClusterLaws.{image-at, image-fits}

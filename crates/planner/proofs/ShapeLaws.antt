@@ -11,7 +11,7 @@ use Rattle.image.specs.Refusal.{refuse, _else_}
 use Rattle.image.specs.View.{isSize, isSlots}
 use Rattle.image.specs.Cluster.{imageAt}
 use Rattle.image.proofs.RefusalLaws.{refuse-zero, else-zero-l, else-zero-r}
-use Rattle.planner.specs.Answers.{shapeRefusal}
+use Rattle.planner.specs.Plan.{shapeRefusal}
 use Rattle.planner.proofs.SeenLaws.{start-is}
 
 pub cluster-fits : (n m : ℕ) → n ≤ 7 → m ≤ 64 → (28 + 274 * m) * n ≤ 122948

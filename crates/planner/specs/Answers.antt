@@ -1,17 +1,17 @@
--- The planner's answer in document 01's numbers, its refusals by stages, and the rows of its table.
-use Prim.Native.Nat.{ℕ, pred, suc, _+_, _*_, _-_, _^_}
+-- The planner's answer in document 01's numbers, and the rows of its table.
+use Prim.Native.Nat.{ℕ, suc, _+_, _*_, _-_}
 use mathlib.Core.Path.{_≡_}
-use mathlib.Core.Bool.{cond, not, _&&_}
+use mathlib.Core.Bool.{cond}
 use mathlib.Core.List.{List, _++_}
 use lib.Dec.{eqb, ltb}
 use lib.ListN.{length, getD, take, drop}
 use Rattle.search.specs.Search.{oneIf, listed}
-use Rattle.image.specs.Refusal.{refuse, _else_}
-use Rattle.image.specs.View.{View, isSize, isReplica, isSlots}
-use Rattle.image.specs.Cluster.{imageAt}
-use Rattle.planner.specs.Setting.{Setting, has}
+use Rattle.slices.specs.Parts.{Bytes}
+use Rattle.image.specs.Refusal.{unlessRefused}
+use Rattle.image.specs.View.{View}
+use Rattle.planner.specs.Setting.{Setting, settingOf, has}
 use Rattle.planner.specs.Rules.{Answer, Refused, Waiting, Ready, answer}
-use Rattle.planner.specs.Plan.{rowLength, rowEpoch}
+use Rattle.planner.specs.Plan.{viewsIn, planRefusal, planBytes, rowLength, rowEpoch}
 use Rattle.planner.specs.declared.PlanAnswer.{PlanAnswer}
 use Rattle.planner.specs.declared.PlanAnswer.the-variants as plan
 use Rattle.planner.specs.declared.ReplicaRow.{ReplicaRow}
@@ -29,29 +29,26 @@ answerAt e w = cond (ltb w e) (plan.Waiting (suc w)) (plan.Ready e)
 unfoldable pub planAnswer : ℕ → Answer → PlanAnswer
 planAnswer refusal a = cond (eqb refusal 0) (answered a) (plan.Refused refusal)
 
--- the new content of what a call was lent; a refused call leaves the old
-unfoldable pub unlessRefused {ℓ} : {A : Type ℓ} → ℕ → A → A → A
-unlessRefused refusal new old = cond (eqb refusal 0) new old
-
--- refusals 1, 2, 3 and 11: what is known of a call before an image is read
-unfoldable pub shapeRefusal : ℕ → ℕ → ℕ → ℕ → ℕ
-shapeRefusal n m present size =
-    refuse 1 (not (isSlots m)) else refuse 2 (not (isSize n)) else refuse 3 (not (eqb size (imageAt m n))) else refuse 11 (not (ltb present (2 ^ n)))
-
--- refusal 12, once the readable set is known
-unfoldable pub leaderRefusal : ℕ → ℕ → ℕ → ℕ
-leaderRefusal readable n leader = refuse 12 (not (isReplica n leader && has readable (pred leader)))
-
--- refusal 13, after all else that applies
-unfoldable pub lentRefusal : ℕ → ℕ → ℕ → ℕ → ℕ → ℕ
-lentRefusal refusal n m bytes rows = refusal else refuse 13 (not (eqb bytes m && eqb rows n))
-
 -- 01's row for a replica
 unfoldable pub rowOf : View → ReplicaRow
 rowOf v = record { readable = oneIf (v .readable); length = rowLength v; «last_epoch» = rowEpoch v }
 
 unfoldable pub rowsOf : Setting → (ℕ → View) → List ReplicaRow
 rowsOf S W = listed (S .n) (λ c. rowOf (W c))
+
+-- the planner's call, of n, m, the leader's number, the present set, the cluster, the lent plan and the lent table: its answer
+abbrev pub planCallAnswer : ℕ → ℕ → ℕ → ℕ → Bytes → ℕ → ℕ → PlanAnswer
+planCallAnswer n m leader present b plan rows =
+    planAnswer (planRefusal n m leader present b plan rows) (answer (settingOf n m leader present) (viewsIn (settingOf n m leader present) b))
+
+-- what it leaves in the plan and in the table
+abbrev pub planLeft : ℕ → ℕ → ℕ → ℕ → Bytes → Bytes → ℕ → Bytes
+planLeft n m leader present b plan rows =
+    unlessRefused (planRefusal n m leader present b (length plan) rows) (planBytes (settingOf n m leader present) (viewsIn (settingOf n m leader present) b)) plan
+
+abbrev pub rowsLeft : ℕ → ℕ → ℕ → ℕ → Bytes → ℕ → List ReplicaRow → List ReplicaRow
+rowsLeft n m leader present b plan rows =
+    unlessRefused (planRefusal n m leader present b plan (length rows)) (rowsOf (settingOf n m leader present) (viewsIn (settingOf n m leader present) b)) rows
 
 unfoldable pub noRow : ReplicaRow
 noRow = record { readable = 0; length = 0; «last_epoch» = 0 }

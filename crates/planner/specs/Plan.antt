@@ -7,7 +7,7 @@ use lib.ListN.{length}
 use Rattle.search.specs.Search.{listed}
 use Rattle.slices.specs.Parts.{Bytes}
 use Rattle.image.specs.Refusal.{refuse, _else_}
-use Rattle.image.specs.View.{Condition, Unused, Whole, RecordLost, Faulty, Lost, View, isSize, isReplica, isSlots}
+use Rattle.image.specs.View.{Condition, conditionNumber, View, isSize, isReplica, isSlots}
 use Rattle.image.specs.Cluster.{decode, imageAt}
 use Rattle.planner.specs.Setting.{Setting, settingOf, viewsOf}
 use Rattle.planner.specs.Rules.{Rule, Keep, Fetch, Truncate, Wait, rule, donor, end}
@@ -16,27 +16,27 @@ use Rattle.planner.specs.Rules.{Rule, Keep, Fetch, Truncate, Wait, rule,
 unfoldable pub viewsIn : Setting → Bytes → ℕ → View
 viewsIn S b = viewsOf S (decode (S .n) (S .m) b)
 
--- refusals 1, 2, 3, 11 and 12 of planning, step and run
+-- refusals 1, 2, 3 and 11: what is known of a call before an image is read
+unfoldable pub shapeRefusal : ℕ → ℕ → ℕ → ℕ → ℕ
+shapeRefusal n m present size =
+    refuse 1 (not (isSlots m)) else refuse 2 (not (isSize n)) else refuse 3 (not (eqb size (imageAt m n))) else refuse 11 (not (ltb present (2 ^ n)))
+
+-- these, and 12: the refusals of planning, step and run
 unfoldable pub clusterRefusal : ℕ → ℕ → ℕ → ℕ → Bytes → ℕ
 clusterRefusal n m leader present b =
-    refuse 1 (not (isSlots m))
-    else refuse 2 (not (isSize n))
-    else refuse 3 (not (eqb (length b) (imageAt m n)))
-    else refuse 11 (not (ltb present (2 ^ n)))
+    shapeRefusal n m present (length b)
     else refuse 12 (not (isReplica n leader && viewsIn (settingOf n m leader present) b (pred leader) .readable))
 
--- the planner is lent a plan of m bytes and a table of n rows
+-- 13, after all else that applies: the plan has not m bytes, or the table not n rows
+unfoldable pub lentRefusal : ℕ → ℕ → ℕ → ℕ → ℕ → ℕ
+lentRefusal refusal n m plan rows = refusal else refuse 13 (not (eqb plan m && eqb rows n))
+
 unfoldable pub planRefusal : ℕ → ℕ → ℕ → ℕ → Bytes → ℕ → ℕ → ℕ
-planRefusal n m leader present b plan rows =
-    clusterRefusal n m leader present b else refuse 13 (not (eqb plan m && eqb rows n))
+planRefusal n m leader present b plan rows = lentRefusal (clusterRefusal n m leader present b) n m plan rows
 
 -- 0 unused, 1 whole, 2 record to be rewritten
 unfoldable pub keptByte : Condition → ℕ
-keptByte Unused = 0
-keptByte Whole = 1
-keptByte RecordLost = 2
-keptByte Faulty = 0
-keptByte Lost = 0
+keptByte a = cond (leb (conditionNumber a) 2) (conditionNumber a) 0
 
 -- 3 wait, 4 the lowest cut, 10 + c fetch from replica number c
 unfoldable pub ruleByte : Rule → Condition → ℕ → ℕ

@@ -3,7 +3,7 @@ use Prim.Native.Nat.{ℕ, _+_, _/_}
 use mathlib.Core.Bool.{Bool, true, false, cond, not, _&&_}
 use lib.Dec.{eqb, leb, ltb}
 use Rattle.search.specs.Search.{lowest, count}
-use Rattle.image.specs.View.{Condition, Unused, Whole, RecordLost, Faulty, Lost, View}
+use Rattle.image.specs.View.{Condition, conditionNumber, View}
 use Rattle.image.specs.Read.{isWhole}
 use Rattle.planner.specs.Setting.{Setting}
 
@@ -17,25 +17,13 @@ mayTruncate n d = leb (majority n) d
 
 -- 01's faulty: verdicts 3 and 4
 unfoldable pub isFaulty : Condition → Bool
-isFaulty Unused = false
-isFaulty Whole = false
-isFaulty RecordLost = false
-isFaulty Faulty = true
-isFaulty Lost = false
+isFaulty a = eqb (conditionNumber a) 3
 
 unfoldable pub isRecordLost : Condition → Bool
-isRecordLost Unused = false
-isRecordLost Whole = false
-isRecordLost RecordLost = true
-isRecordLost Faulty = false
-isRecordLost Lost = false
+isRecordLost a = eqb (conditionNumber a) 2
 
 unfoldable pub isUsed : Condition → Bool
-isUsed Unused = false
-isUsed Whole = true
-isUsed RecordLost = true
-isUsed Faulty = true
-isUsed Lost = true
+isUsed a = not (eqb (conditionNumber a) 0)
 
 -- what to do about a slot of the leader
 pub data Rule : Type 0 where

@@ -1,4 +1,4 @@
--- A survey: what is seen of each replica, in numbers. Slot k of replica c stands at c * 64 + k.
+-- For proofs only. A survey: what is seen of each replica, in numbers. Slot k of replica c stands at c * 64 + k.
 use Prim.Native.Nat.{ℕ, zero, suc, _+_, _*_, _<_, _≤_}
 use mathlib.Core.Path.{_≡_}
 use mathlib.Core.Bool.{Bool, true, false, cond, not, _&&_}
@@ -6,10 +6,13 @@ use mathlib.Core.List.{List}
 use lib.Dec.{eqb, ltb}
 use lib.ListN.{length, getD, take}
 use Rattle.image.specs.View.{Condition, Unused, Whole, RecordLost, Faulty, Lost, View}
-use Rattle.image.specs.Seen.{conditionNumber}
-use Rattle.planner.specs.Setting.{Setting, has}
+use Rattle.image.specs.View.{conditionNumber}
+use Rattle.slices.specs.Parts.{Bytes}
+use Rattle.planner.specs.Setting.{Setting, settingOf, has}
 use Rattle.planner.specs.Rules.{rule, donor, isTruncate, end, firstWaiting}
-use Rattle.planner.specs.Plan.{ruleByte, planBytes}
+use Rattle.planner.specs.Plan.{viewsIn, ruleByte, planBytes}
+use Rattle.planner.specs.declared.Survey.{Survey}
+use Rattle.planner.specs.declared.Plan.{Plan}
 
 -- the numbers of the readable replicas below n are those of the views W, in m slots
 pub record Surveyed (n m : ℕ) (W : ℕ → View) (readable : ℕ) (lengths conditions epochs : List ℕ) : Type 0 where
@@ -82,3 +85,15 @@ pub record Planned (S : Setting) (W : ℕ → View) (bytes : List ℕ) (final wa
   pub bytes-are : take (S .m) bytes ≡ planBytes S W
   pub end-is : final ≡ end S W
   pub waiting-is : waiting ≡ firstWaiting S W
+
+-- the same of the code's structs
+abbrev pub SurveyIs : Setting → (ℕ → View) → ℕ → ℕ → Survey → Type 0
+SurveyIs S W n leader s = SurveyOf S W n leader (s .readable) (s .lengths) (s .conditions) (s .epochs)
+
+abbrev pub PlanIs : Setting → (ℕ → View) → Plan → Type 0
+PlanIs S W p = Planned S W (p .bytes) (p .end) (p .waiting)
+
+-- what a call that is not refused begins with: the survey of the cluster, the leader counted from 0, and the plan
+pub record Opened (n m number present : ℕ) (b : Bytes) (leader : ℕ) (s : Survey) (p : Plan) : Type 0 where
+  pub survey-is : SurveyIs (settingOf n m number present) (viewsIn (settingOf n m number present) b) n leader s
+  pub plan-is : PlanIs (settingOf n m number present) (viewsIn (settingOf n m number present) b) p

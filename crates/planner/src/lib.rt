@@ -27,6 +27,13 @@ pub struct Survey {
     pub epochs: [u32; 448],
 }
 
+// The leader's plan: a byte for each slot, the end of its log, and the lowest slot below that waits (the end if none does).
+pub struct Plan {
+    pub bytes: [u8; 64],
+    pub end: usize,
+    pub waiting: usize,
+}
+
 // Document 01's starred places about the rules.
 pub fn plan_rows_claim()
     ensures { λ _. ⌜ PlanRows ⌝ }

@@ -11,8 +11,8 @@ ghost use Rattle.report.specs.Report.{refusedLine, headLine, planLines, cluster
 ghost use Rattle.report.specs.Lines.{lineFrom};
 use crate::command::present_word;
 use crate::command::read_command;
-use decide::Plan;
 use decide::plan_survey;
+use planner::Plan;
 use planner::Survey;
 use report::Command;
 use survey::cluster::view_cluster;

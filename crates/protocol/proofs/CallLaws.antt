@@ -1,21 +1,22 @@
 -- What a call answers and leaves, by whether it is refused and by the planner's answer.
-use Prim.Native.Nat.{ℕ, zero, suc, pred, _^_, _≤_, _<_}
+use Prim.Native.Nat.{ℕ, zero, suc, _<_}
 use mathlib.Core.Path.{_≡_, refl, sym, ap, _∙_}
-use mathlib.Core.Bool.{Bool, true, false, cond, not, _&&_}
+use mathlib.Core.Bool.{Bool, true, false, cond, not}
 use native.Mathlib.Omega.{arith}
 use native.Mathlib.Decide.{ℕ-discrete}
-use lib.Dec.{eqb, leb, ltb}
+use lib.Dec.{ltb}
 use lib.ListN.{length}
-use borrow.Author.Tests.{eqb-true, leb-true, not-false, eq-eqb, ne-eqb}
+use borrow.Author.Tests.{eq-eqb, ne-eqb}
 use Rattle.slices.specs.Parts.{Bytes}
-use Rattle.slices.proofs.SameLaws.{and-left, and-right}
-use Rattle.image.specs.Refusal.{refuse, _else_}
-use Rattle.image.specs.View.{isSize, isReplica, isSlots}
+use Rattle.image.specs.Refusal.{_else_}
+use Rattle.image.specs.View.{isSize, isSlots}
 use Rattle.image.specs.Cluster.{imageAt}
-use Rattle.image.proofs.RefusalLaws.{refuse-off, refuse-zero, else-zero-l, else-zero-r}
+use Rattle.image.proofs.RefusalLaws.{refuse-off, else-zero-l}
 use Rattle.planner.specs.Setting.{Setting, settingOf}
 use Rattle.planner.specs.Rules.{Answer, Refused, Waiting, Ready, answer, firstWaiting, end}
-use Rattle.planner.specs.Plan.{viewsIn, clusterRefusal, planRefusal}
+use Rattle.planner.specs.Plan.{viewsIn, clusterRefusal, lentRefusal, planRefusal}
+use Rattle.planner.proofs.ShapeLaws.{shaped-slots, shaped-size, shaped-bytes}
+use Rattle.planner.proofs.CallLaws.{leader-accepted, cluster-shaped}
 use Rattle.protocol.specs.StepBytes.{nextIn, stepsBytes, storesBytes}
 use Rattle.protocol.specs.Call.{Call, plan, step, run, Numbers, named, budgetOf, refusalIn, refusalOf}
 use Rattle.protocol.specs.CallResult.{refused, callResult, callBytes, acceptedResult, readyResult, answered, stepResult, runResult, planning}
@@ -28,32 +29,22 @@ pub record Accepted (N : Numbers) (b : Bytes) : Type 0 where
   pub low : named N .leader < N .n
   pub readable : viewsIn (named N) b (named N .leader) .readable ≡ true
 
-test : (k : ℕ) (t : Bool) → refuse (suc k) (not t) ≡ 0 → t ≡ true
-test k t e = not-false t (refuse-zero k (not t) e)
-
 pub accepted : (N : Numbers) (b : Bytes) → refusalIn N b ≡ 0 → Accepted N b
-unfolding clusterRefusal settingOf isReplica
+unfolding settingOf
 accepted N b e =
-    let r = viewsIn (named N) b (pred (N .leader)) .readable in
-    let e₁ = else-zero-r (refuse 1 (not (isSlots (N .m)))) _ e in
-    let e₂ = else-zero-r (refuse 2 (not (isSize (N .n)))) _ e₁ in
-    let e₃ = else-zero-r (refuse 3 (not (eqb (length b) (imageAt (N .m) (N .n))))) _ e₂ in
-    let e₄ = else-zero-r (refuse 11 (not (ltb (N .present) (2 ^ N .n)))) _ e₃ in
-    let t = test 11 (leb 1 (N .leader) && leb (N .leader) (N .n) && r) e₄ in
-    let u = and-left (leb 1 (N .leader) && leb (N .leader) (N .n)) r t in
-    let one : 1 ≤ N .leader = leb-true 1 (N .leader) (and-left (leb 1 (N .leader)) (leb (N .leader) (N .n)) u) in
-    let top : N .leader ≤ N .n = leb-true (N .leader) (N .n) (and-right (leb 1 (N .leader)) (leb (N .leader) (N .n)) u) in
+    let z = cluster-shaped (N .n) (N .m) (N .leader) (N .present) b e in
+    let l = leader-accepted (N .n) (N .m) (N .leader) (N .present) b e in
     record {
-      slots = test 0 (isSlots (N .m)) (else-zero-l (refuse 1 (not (isSlots (N .m)))) _ e);
-      sizes = test 1 (isSize (N .n)) (else-zero-l (refuse 2 (not (isSize (N .n)))) _ e₁);
-      size = eqb-true (length b) (imageAt (N .m) (N .n)) (test 2 (eqb (length b) (imageAt (N .m) (N .n))) (else-zero-l (refuse 3 (not (eqb (length b) (imageAt (N .m) (N .n))))) _ e₂));
-      low = (let f : pred (N .leader) < N .n = omega arith in f);
-      readable = and-right (leb 1 (N .leader) && leb (N .leader) (N .n)) r t;
+      slots = shaped-slots (N .n) (N .m) (N .present) (length b) z;
+      sizes = shaped-size (N .n) (N .m) (N .present) (length b) z;
+      size = shaped-bytes (N .n) (N .m) (N .present) (length b) z;
+      low = l .0;
+      readable = l .1;
     }
 
 -- a call that is not refused finds the cluster not refused
 pub call-accepted : (N : Numbers) (q : Call) (b : Bytes) → refusalOf N q b ≡ 0 → refusalIn N b ≡ 0
-unfolding refusalOf planRefusal
+unfolding refusalOf planRefusal lentRefusal
 call-accepted N (plan p r) b e = else-zero-l _ _ e
 call-accepted N step b e = e
 call-accepted N (run j) b e = e
@@ -89,7 +80,7 @@ else-none (suc r) s e = refl
 module _ (N : Numbers) (b : Bytes) where
   -- planning with the buffers that it asks for is refused as the cluster is
   pub planning-refusal : refusalOf N (planning N) b ≡ refusalIn N b
-  unfolding refusalOf planRefusal
+  unfolding refusalOf planRefusal lentRefusal
   planning-refusal = else-none (refusalIn N b) _ (refuse-off 13 (rw (eq-eqb (N .m) (N .m) refl, eq-eqb (N .n) (N .n) refl)))
 
   module _ (h : refusalIn N b ≡ 0 → ⊥) where

@@ -6,6 +6,19 @@ use Rattle.slices.specs.Parts.{Bytes}
 use Rattle.checksum.specs.Checksum.{checksumOf}
 use Rattle.column.specs.Column.{column}
 
+-- the sizes in bytes of 01's head, line and cell, and of the longest payload
+abbrev pub headerSize : ℕ
+headerSize = 28
+
+abbrev pub recordSize : ℕ
+recordSize = 34
+
+abbrev pub entrySize : ℕ
+entrySize = 240
+
+abbrev pub maxPayload : ℕ
+maxPayload = 200
+
 -- b, its checksum (01's check, which covers what stands before its column), and a newline
 unfoldable pub sealed : Bytes → Bytes
 sealed b = b ++ (column 11 (checksumOf b) ++ (10 ∷ []))
@@ -14,11 +27,11 @@ sealed b = b ++ (column 11 (checksumOf b) ++ (10 ∷ []))
 abbrev pub fixedWord : Bytes
 fixedWord = 114 ∷ 111 ∷ 112 ∷ 101 ∷ []
 
--- 01's head, 28 bytes: `rope`, edition 1, replica c, n, m
+-- 01's head: `rope`, edition 1, replica c, n, m
 unfoldable pub headerBytes : ℕ → ℕ → ℕ → Bytes
 headerBytes c n m = sealed (fixedWord ++ (column 3 1 ++ (column 3 c ++ (column 3 n ++ column 3 m))))
 
--- 01's line, 34 bytes, of an epoch and an index
+-- 01's line, of an epoch and an index
 unfoldable pub recordBytes : ℕ → ℕ → Bytes
 recordBytes e k = sealed (column 11 e ++ column 11 k)
 
@@ -30,10 +43,10 @@ blankRecord = replicate 33 32 ++ (10 ∷ [])
 unfoldable pub padded : ℕ → Bytes → Bytes
 padded w b = b ++ replicate (w - length b) 32
 
--- 01's cell, 240 bytes, of an epoch, an index and a payload
+-- 01's cell, of an epoch, an index and a payload
 unfoldable pub entryBytes : ℕ → ℕ → Bytes → Bytes
-entryBytes e k p = padded 240 (sealed (column 11 e ++ (column 11 k ++ (column 4 (length p) ++ p))))
+entryBytes e k p = padded entrySize (sealed (column 11 e ++ (column 11 k ++ (column 4 (length p) ++ p))))
 
 -- 01's fresh cell: all spaces
 unfoldable pub freshEntry : Bytes
-freshEntry = replicate 240 32
+freshEntry = replicate entrySize 32

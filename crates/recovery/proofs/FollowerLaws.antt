@@ -20,7 +20,7 @@ use Rattle.planner.specs.Plan.{viewsIn}
 use Rattle.planner.specs.Survey.{SurveyOf}
 use Rattle.protocol.specs.Store.{Store}
 use Rattle.protocol.specs.Recovery.{_or_, followerStore, isSome, firstOf, unlike, due, followersStore}
-use Rattle.recovery.specs.NextStore.{ImageFits}
+use Rattle.image.specs.Cluster.{ImageFits}
 use Rattle.recovery.specs.Look.{Looked, InRange}
 use Rattle.protocol.proofs.Slots.{leader-fits}
 

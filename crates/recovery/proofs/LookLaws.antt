@@ -10,7 +10,7 @@ use borrow.Author.Tests.{lt-ltb, le-ltb}
 use Rattle.search.specs.Search.{lowest}
 use Rattle.search.proofs.SearchLaws.{lowest-le, lowest-passes, lowest-cong}
 use Rattle.image.specs.View.{Condition, Unused, Whole, RecordLost, Faulty, Lost, View}
-use Rattle.image.specs.Seen.{conditionNumber}
+use Rattle.image.specs.View.{conditionNumber}
 use Rattle.image.proofs.ScannedLaws.{taken-at}
 use Rattle.planner.specs.Setting.{Setting}
 use Rattle.planner.proofs.RuleLaws.{end-le}

@@ -10,7 +10,7 @@ use borrow.Author.Tests.{lt-ltb, le-ltb}
 use Rattle.search.specs.Search.{put}
 use Rattle.search.proofs.UpdateLaws.{put-case, put-back}
 use Rattle.image.specs.View.{View, Condition, Unused, Whole}
-use Rattle.image.specs.Seen.{conditionNumber}
+use Rattle.image.specs.View.{conditionNumber}
 use Rattle.planner.specs.Setting.{Setting}
 use Rattle.planner.specs.Survey.{SurveyOf}
 use Rattle.planner.specs.declared.Survey.{Survey}

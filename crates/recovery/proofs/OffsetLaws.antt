@@ -5,7 +5,7 @@ use native.Mathlib.Omega.{arith}
 use Rattle.image.specs.Image.{recordAt, entryAt}
 use Rattle.image.specs.Cluster.{imageAt}
 use Rattle.image.proofs.DecodeLaws.{record-fits, entry-fits}
-use Rattle.recovery.specs.NextStore.{ImageFits}
+use Rattle.image.specs.Cluster.{ImageFits}
 
 pub record-code : (k : ℕ) → 28 + 34 * k ≡ recordAt k
 unfolding recordAt

@@ -22,7 +22,8 @@ use Rattle.protocol.specs.Recovery.{after, isSome}
 use Rattle.protocol.specs.StepBytes.{afterStoreBytes, nextIn, stepsBytes, storesBytes}
 use Rattle.protocol.specs.Call.{step, run, Numbers, named, refusalIn}
 use Rattle.protocol.specs.CallResult.{Result, refused, waiting, stored, recovered, spent, stepResult, runResult, callResult, callBytes}
-use Rattle.recovery.specs.NextStore.{storeOf, ImageFits, StoreFits}
+use Rattle.image.specs.Cluster.{ImageFits}
+use Rattle.recovery.specs.NextStore.{storeOf, StoreFits}
 use Rattle.recovery.specs.Answers.{OutlookIs}
 use Rattle.recovery.specs.declared.NextStore.{NextStore}
 use Rattle.recovery.specs.declared.NextStore.the-variants.{Nothing, Entry, Record, Blank}

@@ -1,24 +1,17 @@
 -- What stands of a recovery, as the code comes to it.
-use Prim.Native.Nat.{ℕ, pred, _+_, _-_, _^_, _≤_, _<_}
+use Prim.Native.Nat.{ℕ, pred, _+_, _-_, _≤_, _<_}
 use mathlib.Core.Path.{_≡_, refl, sym, ap, _∙_}
-use mathlib.Core.Bool.{true, not, _&&_}
+use mathlib.Core.Bool.{true}
 use mathlib.Core.List.{List}
-use mathlib.Core.Option.{Option}
 use native.Mathlib.Omega.{arith}
-use lib.Dec.{eqb, leb, ltb}
 use lib.ListN.{length, getD}
-use borrow.Author.Tests.{leb-true, not-false, lt-ltb, le-ltb}
+use borrow.Author.Tests.{lt-ltb, le-ltb}
 use Rattle.slices.specs.Parts.{Bytes}
-use Rattle.slices.proofs.SameLaws.{and-left}
-use Rattle.image.specs.Refusal.{refuse}
-use Rattle.image.specs.View.{isSize, isReplica, isSlots}
-use Rattle.image.proofs.RefusalLaws.{refuse-zero, else-zero-r}
-use Rattle.image.specs.Cluster.{imageAt, decode}
-use Rattle.planner.specs.Setting.{Setting, settingOf, has, viewsOf}
+use Rattle.image.specs.Cluster.{decode}
+use Rattle.planner.specs.Setting.{settingOf}
 use Rattle.planner.specs.Rules.{Waiting, Ready, answer, end, firstWaiting}
-use Rattle.planner.specs.Plan.{viewsIn, clusterRefusal}
+use Rattle.planner.specs.Plan.{viewsIn}
 use Rattle.planner.specs.Survey.{SurveyOf, Planned}
-use Rattle.protocol.specs.Store.{Store}
 use Rattle.protocol.specs.Recovery.{_or_, leaderStore, followersStore, ifReady, next}
 use Rattle.protocol.specs.StepBytes.{nextIn}
 use Rattle.protocol.specs.Call.{Numbers, named, refusalIn}
@@ -28,20 +21,13 @@ use Rattle.recovery.specs.Answers.{OutlookIs}
 use Rattle.recovery.specs.declared.NextStore.{NextStore}
 use Rattle.recovery.specs.declared.Outlook.the-variants as outlook
 use Rattle.planner.proofs.RuleLaws.{end-le}
+use Rattle.planner.proofs.CallLaws.{leader-first}
 use Rattle.recovery.proofs.FollowerLaws.{log-within}
 use Rattle.protocol.proofs.CallLaws.{accepted}
 
 -- the leader's number is from 1
 pub from-one : (N : Numbers) (b : Bytes) → refusalIn N b ≡ 0 → 1 ≤ N .leader
-unfolding clusterRefusal isReplica
-from-one N b e =
-    let r = viewsIn (named N) b (pred (N .leader)) .readable in
-    let e₁ = else-zero-r (refuse 1 (not (isSlots (N .m)))) _ e in
-    let e₂ = else-zero-r (refuse 2 (not (isSize (N .n)))) _ e₁ in
-    let e₃ = else-zero-r (refuse 3 (not (eqb (length b) (imageAt (N .m) (N .n))))) _ e₂ in
-    let e₄ = else-zero-r (refuse 11 (not (ltb (N .present) (2 ^ N .n)))) _ e₃ in
-    let t = not-false (leb 1 (N .leader) && leb (N .leader) (N .n) && r) (refuse-zero 11 _ e₄) in
-    leb-true 1 (N .leader) (and-left (leb 1 (N .leader)) (leb (N .leader) (N .n)) (and-left (leb 1 (N .leader) && leb (N .leader) (N .n)) r t))
+from-one N b e = leader-first (N .n) (N .m) (N .leader) (N .present) b e
 
 pub named-m : (N : Numbers) → named N .m ≡ N .m
 unfolding settingOf

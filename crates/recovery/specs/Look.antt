@@ -6,7 +6,7 @@ use mathlib.Core.List.{List}
 use mathlib.Core.Option.{none}
 use lib.ListN.{getD}
 use Rattle.image.specs.View.{View}
-use Rattle.image.specs.Seen.{conditionNumber}
+use Rattle.image.specs.View.{conditionNumber}
 use Rattle.image.specs.Cluster.{Cluster, imageAt}
 use Rattle.planner.specs.Setting.{Setting, has, viewsOf}
 use Rattle.protocol.specs.Recovery.{leaderStore, isSome, due}

@@ -1,8 +1,7 @@
 -- The store that the code's enum names.
-use Prim.Native.Nat.{ℕ, _+_, _≤_, _<_}
+use Prim.Native.Nat.{ℕ, _<_}
 use mathlib.Core.Option.{Option, none, some}
-use Rattle.image.specs.Image.{imageSize}
-use Rattle.image.specs.Cluster.{imageAt}
+use Rattle.image.specs.Cluster.{ImageFits}
 use Rattle.protocol.specs.Store.{Store, storeEntry, storeRecord, storeBlank}
 use Rattle.recovery.specs.declared.NextStore.{NextStore}
 use Rattle.recovery.specs.declared.NextStore.the-variants.{Nothing, Entry, Record, Blank}
@@ -12,10 +11,6 @@ storeOf Nothing = none
 storeOf (Entry c k d) = some (storeEntry c k d)
 storeOf (Record c k e) = some (storeRecord c k e)
 storeOf (Blank c k) = some (storeBlank c k)
-
--- the image of replica c, with m slots, lies in a buffer of so many bytes
-abbrev pub ImageFits : ℕ → ℕ → ℕ → Type 0
-ImageFits m size c = imageAt m c + imageSize m ≤ size
 
 -- the images and the slot that a store names lie in the buffer
 abbrev pub StoreFits : ℕ → ℕ → NextStore → Type 0

@@ -15,7 +15,7 @@ use Rattle.image.specs.Refusal.{refuse, _else_}
 use Rattle.image.specs.View.{View, isSize, isSlots}
 use Rattle.planner.specs.Setting.{Setting, settingOf}
 use Rattle.planner.specs.Rules.{answer}
-use Rattle.planner.specs.Plan.{viewsIn, planByte, planBytes, clusterRefusal}
+use Rattle.planner.specs.Plan.{viewsIn, planByte, planBytes, clusterRefusal, shapeRefusal}
 use Rattle.planner.specs.Survey.{SurveyOf, Planned}
 use Rattle.report.specs.Command.{commandLine, presentOf}
 use Rattle.report.specs.Report.{refusedLine, clusterReport, commandReport, reportOf, headLine, slotLine, statusOf, numberOf, slotLines, planLines, Prints}
@@ -76,7 +76,7 @@ module _ (n m leader present : ℕ) (b : Bytes) where
 
 -- n is refused before the present set is looked at
 unsized : (n m leader x : ℕ) (b : Bytes) → isSize n ≡ false → (t : Bool) → isSlots m ≡ t → cond t 2 1 ≡ clusterRefusal n m leader x b
-unfolding clusterRefusal refuse _else_
+unfolding shapeRefusal clusterRefusal refuse _else_
 unsized n m leader x b e true f = rw (f, e) refl
 unsized n m leader x b e false f = rw f refl
 

@@ -1,19 +1,20 @@
 -- The two ends of every call about a cluster: the answer, with what is handed out, or the refusal, and nothing is.
-use Prim.Native.Nat.{ℕ, pred}
+use Prim.Native.Nat.{ℕ}
 use mathlib.Core.Path.{_≡_, refl, sym, ap, _∙_}
 use mathlib.Core.Bool.{Bool, true, false, cond}
 use mathlib.Core.List.{List}
 use native.Mathlib.Omega.{arith}
 use lib.Dec.{eqb, ltb}
-use borrow.Author.Tests.{eqb-true, not-false}
+use borrow.Author.Tests.{eqb-true}
 use Rattle.slices.specs.Parts.{Bytes}
-use Rattle.slices.proofs.SameLaws.{and-right}
-use Rattle.image.specs.View.{View, isReplica}
-use Rattle.image.proofs.RefusalLaws.{refuse-zero, else-zero-l, else-zero-r}
+use Rattle.image.specs.View.{View}
+use Rattle.image.proofs.RefusalLaws.{else-zero-l}
 use Rattle.planner.specs.Setting.{Setting, settingOf}
 use Rattle.planner.specs.Rules.{Answer, Refused, Waiting, Ready, answer, end, firstWaiting}
-use Rattle.planner.specs.Plan.{viewsIn, clusterRefusal, planRefusal}
-use Rattle.planner.specs.Answers.{answered, planAnswer, unlessRefused}
+use Rattle.planner.specs.Plan.{viewsIn, lentRefusal, planRefusal}
+use Rattle.image.specs.Refusal.{unlessRefused}
+use Rattle.planner.specs.Answers.{answered, planAnswer}
+use Rattle.planner.proofs.CallLaws.{leader-accepted}
 use Rattle.planner.specs.declared.ReplicaRow.{ReplicaRow}
 use Rattle.planner.specs.declared.PlanAnswer.{PlanAnswer}
 use Rattle.planner.specs.declared.PlanAnswer.the-variants as plan-answer
@@ -40,11 +41,9 @@ pub not-refused :
     planRefusal n m leader present b bytes rows ≡ 0 →
     answer (settingOf n m leader present) (viewsIn (settingOf n m leader present) b) ≡ Refused →
     ⊥
-unfolding planRefusal clusterRefusal settingOf
+unfolding planRefusal lentRefusal settingOf
 not-refused n m leader present b bytes rows e =
-    answer-known (settingOf n m leader present) (viewsIn (settingOf n m leader present) b)
-    (and-right (isReplica n leader) (viewsIn (settingOf n m leader present) b (pred leader) .readable)
-    (not-false _ (refuse-zero 11 _ (else-zero-r _ _ (else-zero-r _ _ (else-zero-r _ _ (else-zero-r _ _ (else-zero-l _ _ e))))))))
+    answer-known (settingOf n m leader present) (viewsIn (settingOf n m leader present) b) (leader-accepted n m leader present b (else-zero-l _ _ e) .1)
 
 -- ---- planning
 

@@ -17,8 +17,8 @@ use Rattle.image.specs.declared.FormatAnswer.the-variants as format
 use Rattle.image.specs.declared.AppendAnswer.the-variants as append
 use Rattle.image.specs.declared.ReadAnswer.the-variants as read
 use Rattle.image.specs.declared.PayloadAnswer.the-variants as payload
-use Rattle.ropelog.specs.Pieces.{unlessRefused}
-use Rattle.ropelog.specs.Images.{handedOut, flag, payloadFound, found}
+use Rattle.image.specs.Refusal.{unlessRefused}
+use Rattle.ropelog.specs.Images.{flag, payloadFound, found}
 
 -- ---- a fresh image
 
@@ -44,8 +44,8 @@ module _ (refusal k : ℕ) (after new : Bytes) (written : after ≡ new) (old : 
   pub append-done :
       (slot : ℕ) →
       append.Slot slot ≡ appendAnswer refusal k →
-      (0 ≡ refusal) × (after ≡ new) × (slot ≡ handedOut 0 (suc k) old)
-  unfolding appendAnswer handedOut
+      (0 ≡ refusal) × (after ≡ new) × (slot ≡ unlessRefused 0 (suc k) old)
+  unfolding appendAnswer unlessRefused
   append-done slot = go (eqb refusal 0) refl
     where
       go :
@@ -59,8 +59,8 @@ module _ (refusal k : ℕ) (after new : Bytes) (written : after ≡ new) (old : 
   pub append-refused :
       (x : ℕ) →
       append.Refused x ≡ appendAnswer refusal k →
-      (x ≡ refusal) × (after ≡ new) × (old ≡ handedOut x (suc k) old)
-  unfolding appendAnswer handedOut
+      (x ≡ refusal) × (after ≡ new) × (old ≡ unlessRefused x (suc k) old)
+  unfolding appendAnswer unlessRefused
   append-refused x = go (eqb refusal 0) refl
     where
       go :
@@ -77,8 +77,8 @@ module _ (refusal used : ℕ) (e es e′ v vs v′ : Bytes) (epochs : e′ ≡ c
   pub read-done :
       (len : ℕ) →
       read.Length len ≡ readAnswer refusal used →
-      (0 ≡ refusal) × (e′ ≡ unlessRefused 0 e es) × (v′ ≡ unlessRefused 0 v vs) × (len ≡ handedOut 0 used old)
-  unfolding readAnswer unlessRefused handedOut
+      (0 ≡ refusal) × (e′ ≡ unlessRefused 0 e es) × (v′ ≡ unlessRefused 0 v vs) × (len ≡ unlessRefused 0 used old)
+  unfolding readAnswer unlessRefused
   read-done len = go (eqb refusal 0) refl
     where
       go :
@@ -92,8 +92,8 @@ module _ (refusal used : ℕ) (e es e′ v vs v′ : Bytes) (epochs : e′ ≡ c
   pub read-refused :
       (x : ℕ) →
       read.Refused x ≡ readAnswer refusal used →
-      (x ≡ refusal) × (e′ ≡ unlessRefused x e es) × (v′ ≡ unlessRefused x v vs) × (old ≡ handedOut x used old)
-  unfolding readAnswer unlessRefused handedOut
+      (x ≡ refusal) × (e′ ≡ unlessRefused x e es) × (v′ ≡ unlessRefused x v vs) × (old ≡ unlessRefused x used old)
+  unfolding readAnswer unlessRefused
   read-refused x = go (eqb refusal 0) refl
     where
       go :
@@ -107,8 +107,8 @@ module _ (refusal used : ℕ) (e es e′ v vs v′ : Bytes) (epochs : e′ ≡ c
 -- ---- whether there is a payload
 
 module _ (refusal : ℕ) (has : Bool) (old : ℕ) where
-  pub has-present : payload.Present ≡ payloadAnswer refusal has → (0 ≡ refusal) × (1 ≡ handedOut 0 (flag has) old)
-  unfolding payloadAnswer handedOut flag
+  pub has-present : payload.Present ≡ payloadAnswer refusal has → (0 ≡ refusal) × (1 ≡ unlessRefused 0 (flag has) old)
+  unfolding payloadAnswer unlessRefused flag
   has-present = go (eqb refusal 0) has refl
     where
       go :
@@ -120,8 +120,8 @@ module _ (refusal : ℕ) (has : Bool) (old : ℕ) where
       go true false q h = absurd (let z : _≡_ {A = ℕ} 0 1 = cc in omega arith)
       go false s q h = absurd (let z : _≡_ {A = ℕ} 0 1 = cc in omega arith)
 
-  pub has-absent : payload.Absent ≡ payloadAnswer refusal has → (0 ≡ refusal) × (0 ≡ handedOut 0 (flag has) old)
-  unfolding payloadAnswer handedOut flag
+  pub has-absent : payload.Absent ≡ payloadAnswer refusal has → (0 ≡ refusal) × (0 ≡ unlessRefused 0 (flag has) old)
+  unfolding payloadAnswer unlessRefused flag
   has-absent = go (eqb refusal 0) has refl
     where
       go :
@@ -133,8 +133,8 @@ module _ (refusal : ℕ) (has : Bool) (old : ℕ) where
       go true true q h = absurd (let z : _≡_ {A = ℕ} 0 1 = cc in omega arith)
       go false s q h = absurd (let z : _≡_ {A = ℕ} 0 1 = cc in omega arith)
 
-  pub has-refused : (x : ℕ) → payload.Refused x ≡ payloadAnswer refusal has → (x ≡ refusal) × (old ≡ handedOut x (flag has) old)
-  unfolding payloadAnswer handedOut
+  pub has-refused : (x : ℕ) → payload.Refused x ≡ payloadAnswer refusal has → (x ≡ refusal) × (old ≡ unlessRefused x (flag has) old)
+  unfolding payloadAnswer unlessRefused
   has-refused x = go (eqb refusal 0) has refl
     where
       go :

@@ -13,7 +13,8 @@ use Rattle.record.specs.Meaning.{readRecord, readEntry}
 use Rattle.record.specs.Judged.{recordAnswer, entryAnswer}
 use Rattle.record.specs.declared.RecordState.{RecordState}
 use Rattle.record.specs.declared.EntryState.{EntryState}
-use Rattle.ropelog.specs.Pieces.{sizeRefusal, entryRefusal, unlessRefused, headerCode, columnStateCode, columnStateOut, columnCode, columnOut, recordStateCode, recordStateOut, recordCode, recordOut, entryStateCode, entryStateEpochOut, entryStateSizeOut, entryCode, entryEpochOut, entrySizeOut}
+use Rattle.image.specs.Refusal.{unlessRefused}
+use Rattle.ropelog.specs.Pieces.{sizeRefusal, entryRefusal, headerCode, columnStateCode, columnStateOut, columnCode, columnOut, recordStateCode, recordStateOut, recordCode, recordOut, entryStateCode, entryStateEpochOut, entryStateSizeOut, entryCode, entryEpochOut, entrySizeOut}
 
 pub write-wrong-size : (size : ℕ) (b new : Bytes) → (length b ≡ size → ⊥) → (3 ≡ sizeRefusal size b) × (b ≡ unlessRefused 3 new b)
 unfolding sizeRefusal unlessRefused

@@ -7,10 +7,6 @@ use Rattle.image.specs.Image.{decodeImage}
 use Rattle.image.specs.View.{readRefusal}
 use Rattle.image.specs.Read.{hasPayload}
 
--- the new number, or the old one if the call is refused
-unfoldable pub handedOut : ℕ → ℕ → ℕ → ℕ
-handedOut refusal new old = cond (eqb refusal 0) new old
-
 -- 1 for yes, 0 for no
 unfoldable pub flag : Bool → ℕ
 flag b = cond b 1 0

@@ -25,10 +25,6 @@ sizeRefusal size b = cond (eqb (length b) size) 0 3
 unfoldable pub entryRefusal : Bytes → Bytes → ℕ
 entryRefusal b p = cond (eqb (length b) 240) (cond (leb (length p) 200) 0 9) 3
 
--- what a writer leaves: the new bytes, or the old ones if it refuses
-unfoldable pub unlessRefused : ℕ → Bytes → Bytes → Bytes
-unlessRefused refusal new old = cond (eqb refusal 0) new old
-
 -- 1 if the header is the writer's, else 0
 unfoldable pub headerCode : ℕ → ℕ → ℕ → Bytes → ℕ
 headerCode c n m b = cond (same b (headerBytes c n m)) 1 0

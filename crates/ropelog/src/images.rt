@@ -7,8 +7,8 @@ ghost use Rattle.image.specs.Image.{decodeImage};
 ghost use Rattle.image.specs.View.{callRefusal, readRefusal, logLength};
 ghost use Rattle.image.specs.Read.{lentRefusal, epochsOf, verdictsOf, hasPayload, payloadOf, payloadAt};
 ghost use Rattle.image.specs.Append.{appendRefusal, appended, formatted};
-ghost use Rattle.ropelog.specs.Pieces.{unlessRefused};
-ghost use Rattle.ropelog.specs.Images.{handedOut, flag, payloadFound, found};
+ghost use Rattle.image.specs.Refusal.{unlessRefused};
+ghost use Rattle.ropelog.specs.Images.{flag, payloadFound, found};
 
 // Makes a fresh image in a buffer of its size.
 #[no_mangle]
@@ -34,7 +34,7 @@ pub extern "C" fn rope_append(
 ) -> u8
     ensures { λ r. ⌜ (r ≡ appendRefusal replica n m (now (image .entry)) epoch (length (now (payload .entry))))
         × (now (image .exit) ≡ appended replica n m (now (image .entry)) epoch (now (payload .entry)))
-        × (now (slot .exit) ≡ handedOut r (suc (logLength m (decodeImage replica n m (now (image .entry))))) (now (slot .entry))) ⌝ }
+        × (now (slot .exit) ≡ unlessRefused r (suc (logLength m (decodeImage replica n m (now (image .entry))))) (now (slot .entry))) ⌝ }
 {
     match append::append_entry(image, replica, n, m, epoch, payload) {
         image::AppendAnswer::Slot(written) => {
@@ -59,7 +59,7 @@ pub extern "C" fn rope_read(
     ensures { λ r. ⌜ (r ≡ lentRefusal replica n m (now (image .entry)) (length (now (epochs .entry))) (length (now (verdicts .entry))))
         × (now (epochs .exit) ≡ unlessRefused r (epochsOf m (decodeImage replica n m (now (image .entry)))) (now (epochs .entry)))
         × (now (verdicts .exit) ≡ unlessRefused r (verdictsOf m (decodeImage replica n m (now (image .entry)))) (now (verdicts .entry)))
-        × (now (used .exit) ≡ handedOut r (logLength m (decodeImage replica n m (now (image .entry)))) (now (used .entry))) ⌝ }
+        × (now (used .exit) ≡ unlessRefused r (logLength m (decodeImage replica n m (now (image .entry)))) (now (used .entry))) ⌝ }
 {
     match read::read_image(image, replica, n, m, epochs, verdicts) {
         image::ReadAnswer::Length(length) => {
@@ -81,7 +81,7 @@ pub extern "C" fn rope_has_payload(
     has: &mut u8,
 ) -> u8
     ensures { λ r. ⌜ (r ≡ readRefusal replica n m (now (image .entry)))
-        × (now (has .exit) ≡ handedOut r (flag (hasPayload m (decodeImage replica n m (now (image .entry))) slot)) (now (has .entry))) ⌝ }
+        × (now (has .exit) ≡ unlessRefused r (flag (hasPayload m (decodeImage replica n m (now (image .entry))) slot)) (now (has .entry))) ⌝ }
 {
     match read::has_payload(image, replica, n, m, slot) {
         image::PayloadAnswer::Present => {

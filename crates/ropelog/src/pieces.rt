@@ -4,7 +4,8 @@ ghost use lib.ListN.{length};
 ghost use Rattle.checksum.specs.Checksum.{checksumOf};
 ghost use Rattle.column.specs.Column.{column};
 ghost use Rattle.record.specs.Layout.{headerBytes, recordBytes, blankRecord, entryBytes, freshEntry};
-ghost use Rattle.ropelog.specs.Pieces.{sizeRefusal, entryRefusal, unlessRefused, headerCode, columnCode, columnOut, recordCode, recordOut, entryCode, entryEpochOut, entrySizeOut};
+ghost use Rattle.image.specs.Refusal.{unlessRefused};
+ghost use Rattle.ropelog.specs.Pieces.{sizeRefusal, entryRefusal, headerCode, columnCode, columnOut, recordCode, recordOut, entryCode, entryEpochOut, entrySizeOut};
 
 // The checksum of some bytes.
 #[no_mangle]

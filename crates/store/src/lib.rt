@@ -8,7 +8,8 @@ ghost use Rattle.image.specs.Image.{recordAt, entryAt};
 ghost use Rattle.image.specs.Cluster.{imageAt};
 ghost use Rattle.protocol.specs.Recovery.{after};
 ghost use Rattle.protocol.specs.StepBytes.{afterStoreBytes};
-ghost use Rattle.recovery.specs.NextStore.{storeOf, ImageFits, StoreFits};
+ghost use Rattle.image.specs.Cluster.{ImageFits};
+ghost use Rattle.recovery.specs.NextStore.{storeOf, StoreFits};
 use recovery::NextStore;
 
 // Where the record of slot k of replica c begins.

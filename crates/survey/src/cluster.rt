@@ -1,10 +1,12 @@
 // A cluster's refusals, and its survey. Planning, step and run share them.
-ghost use Prim.Native.Nat.{_-_, _≤_};
+ghost use Prim.Native.Nat.{pred, _-_, _≤_};
 ghost use mathlib.Core.Path.{_≡_};
-ghost use Rattle.planner.specs.Setting.{settingOf};
-ghost use Rattle.planner.specs.Plan.{viewsIn, clusterRefusal};
+ghost use Rattle.planner.specs.Setting.{has, settingOf};
+ghost use mathlib.Core.Bool.{not, _&&_};
+ghost use Rattle.image.specs.Refusal.{refuse};
+ghost use Rattle.image.specs.View.{isReplica};
+ghost use Rattle.planner.specs.Plan.{viewsIn, shapeRefusal, clusterRefusal};
 ghost use Rattle.planner.specs.Survey.{SurveyOf};
-ghost use Rattle.planner.specs.Answers.{shapeRefusal, leaderRefusal};
 use crate::sets::contains;
 use crate::survey_cluster;
 use planner::Survey;
@@ -40,7 +42,7 @@ fn shape_refusal(size: usize, n: usize, m: usize, present: u32) -> u8
 // Refusal 12: the leader's number, from 1, is out of range, or the replica is not readable.
 fn leader_refusal(readable: u32, n: usize, leader: usize) -> u8
     requires { ⌜ n ≤ 7 ⌝ }
-    ensures { λ r. ⌜ r ≡ leaderRefusal readable n leader ⌝ }
+    ensures { λ r. ⌜ r ≡ refuse 12 (not (isReplica n leader && has readable (pred leader))) ⌝ }
 {
     if leader < 1 {
         return 12;

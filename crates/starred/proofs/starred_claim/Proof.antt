@@ -16,7 +16,7 @@ use Rattle.image.specs.Read.{isWhole}
 use Rattle.image.specs.Cluster.{imageAt, imagePart, decode}
 use Rattle.planner.specs.Setting.{settingOf, has, viewsOf}
 use Rattle.planner.specs.Rules.{majority, mayTruncate, isFaulty, isUsed, isTruncate, isWait, answers, agrees, have, dontHave, donor, rule, end, firstWaiting, answer}
-use Rattle.planner.specs.Plan.{viewsIn, clusterRefusal, planRefusal, keptByte, ruleByte, planByte, planBytes}
+use Rattle.planner.specs.Plan.{viewsIn, shapeRefusal, clusterRefusal, lentRefusal, planRefusal, keptByte, ruleByte, planByte, planBytes}
 use Rattle.protocol.specs.Call.{refusalOf}
 use Rattle.protocol.specs.CallResult.{readyResult, acceptedResult, callResult}
 use Rattle.starred.specs.Cards as cards
@@ -24,7 +24,7 @@ use Rattle.starred.proofs.starred_claim.Statement.{statement}
 use Rattle.starred.proofs.starred_claim.Tie as tie
 
 returns : tie.Need-returns
-unfolding lowest count sum oneIf all listed part same sumA sumB checksumOf digits column digitStep valueFrom valueOf sealed headerBytes recordBytes blankRecord padded entryBytes freshEntry isEpoch readHeader isGood recordEpoch readRecord isIntact entryEpoch entryPayload readEntry refuse _else_ imageSize recordAt entryAt decodeImage condition epochOf conditionAt epochAt isBlank isProper isLost logLength noGap noneLost rising imageRefusal viewOf isSize isReplica isSlots callRefusal readRefusal verdictOf verdictAt isFresh lastEpoch appendRefusal isWhole imageAt imagePart decode settingOf has viewsOf majority mayTruncate isFaulty isUsed isTruncate isWait answers agrees have dontHave donor rule end firstWaiting answer viewsIn clusterRefusal planRefusal keptByte ruleByte planByte planBytes refusalOf readyResult acceptedResult callResult cards.noise cards.scratch cards.whole cards.one cards.two cards.faulty cards.has cards.lacks
+unfolding lowest count sum oneIf all listed part same sumA sumB checksumOf digits column digitStep valueFrom valueOf sealed headerBytes recordBytes blankRecord padded entryBytes freshEntry isEpoch readHeader isGood recordEpoch readRecord isIntact entryEpoch entryPayload readEntry refuse _else_ imageSize recordAt entryAt decodeImage condition epochOf conditionAt epochAt isBlank isProper isLost logLength noGap noneLost rising imageRefusal viewOf isSize isReplica isSlots callRefusal readRefusal verdictOf verdictAt isFresh lastEpoch appendRefusal isWhole imageAt imagePart decode settingOf has viewsOf majority mayTruncate isFaulty isUsed isTruncate isWait answers agrees have dontHave donor rule end firstWaiting answer viewsIn shapeRefusal clusterRefusal lentRefusal planRefusal keptByte ruleByte planByte planBytes refusalOf readyResult acceptedResult callResult cards.noise cards.scratch cards.whole cards.one cards.two cards.faulty cards.has cards.lacks
 returns c = record {
   no-bytes = refl;
   byte-65 = refl;

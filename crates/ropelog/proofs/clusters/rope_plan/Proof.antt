@@ -46,7 +46,8 @@ use Rattle.planner.specs.declared.PlanAnswer.{PlanAnswer}
 use Rattle.planner.specs.Setting.{Setting, settingOf}
 use Rattle.planner.specs.Rules.{answer}
 use Rattle.planner.specs.Plan.{viewsIn, planRefusal, planBytes}
-use Rattle.planner.specs.Answers.{planAnswer, unlessRefused, rowsOf}
+use Rattle.planner.specs.Answers.{planAnswer, rowsOf}
+use Rattle.image.specs.Refusal.{unlessRefused}
 use Rattle.protocol.specs.Call.{plan}
 use Rattle.protocol.specs.CallResult.{Result, callResult}
 use Rattle.recovery.specs.Answers.{numbers, planAnswerResult}
