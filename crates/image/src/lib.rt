@@ -5,6 +5,8 @@ ghost use Rattle.image.specs.ReadingClaim.{ReadingClaim};
 ghost use Rattle.image.specs.AppendClaim.{AppendClaim};
 ghost use Rattle.image.specs.LastEntry.{LastEntry};
 
+pub mod condition; // condition.rt: the conditions of a slot by number
+
 // A fresh image was made, or the refusal.
 pub enum FormatAnswer {
     Formatted,

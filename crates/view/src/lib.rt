@@ -1,15 +1,17 @@
 // What is seen of an image: the condition and epoch of each slot, the length of its log, and its refusals.
-ghost use Prim.Native.Nat.{ℕ, _<_, _≤_};
+ghost use Prim.Native.Nat.{ℕ, _+_, _-_, _<_, _≤_};
 ghost use mathlib.Core.Path.{_≡_};
-ghost use mathlib.Core.Bool.{true, not};
+ghost use mathlib.Core.Bool.{true, not, cond, _||_};
 ghost use mathlib.Core.List.{List};
-ghost use lib.ListN.{length};
+ghost use lib.Dec.{eqb};
+ghost use lib.ListN.{length, getD};
 ghost use Rattle.record.specs.Meaning.{Entry, good, bad};
 ghost use Rattle.record.specs.Judged.{recordAnswer, entryAnswer};
 ghost use Rattle.image.specs.Image.{imageSize, decodeImage};
 ghost use Rattle.image.specs.View.{isSize, isSlots, callRefusal, imageRefusal, readRefusal};
 ghost use Rattle.image.specs.Seen.{Seen};
 ghost use Rattle.image.specs.Scan.{SlotIs, Scanned, lengthIn, noGapIn, noneLostIn, risingIn, scanRefusal};
+use image::condition;
 use record::EntryState;
 use record::RecordState;
 
@@ -286,4 +288,25 @@ pub fn open_image(image: &[u8], replica: usize, n: usize, m: usize) -> ImageView
         return refused_view(refusal);
     }
     view_image(image, replica, n, m)
+}
+
+// Whether a condition is whole, its record lost or not.
+pub fn is_whole(condition: u8) -> bool
+    ensures { λ r. ⌜ r ≡ (eqb condition 1 || eqb condition 2) ⌝ }
+{
+    if condition == condition::WHOLE {
+        return true;
+    }
+    condition == condition::RECORD_LOST
+}
+
+// The epoch of the last of so many used slots, whose epochs begin at `from`; 0 if there is none.
+pub fn last_epoch(epochs: &[u32], from: usize, used: usize) -> u32
+    requires { ⌜ from + used ≤ length (now epochs) ⌝ }
+    ensures { λ r. ⌜ r ≡ cond (eqb used 0) 0 (getD (now (epochs .entry)) (from + used - 1) 0) ⌝ }
+{
+    if used == 0 {
+        return 0;
+    }
+    epochs[from + used - 1]
 }
