@@ -1,20 +1,24 @@
 // Fresh images, and appending.
-ghost use Prim.Native.Nat.{_+_, _-_, _*_, _<_, _≤_};
+ghost use Prim.Native.Nat.{_+_, _*_, _<_, _≤_};
 ghost use mathlib.Core.Path.{_≡_};
-ghost use mathlib.Core.Bool.{cond, _||_};
+ghost use mathlib.Core.Bool.{_||_};
 ghost use lib.Dec.{eqb, leb, ltb};
-ghost use lib.ListN.{length, getD};
+ghost use lib.ListN.{length};
 ghost use Rattle.search.specs.Search.{joined};
 ghost use Rattle.slices.specs.Parts.{spliced};
-ghost use Rattle.record.specs.Layout.{blankRecord, freshEntry};
+ghost use Rattle.record.specs.Layout.{headerSize, recordSize, entrySize, maxPayload, blankRecord, freshEntry};
 ghost use Rattle.image.specs.Refusal.{refuse, _else_};
-ghost use Rattle.image.specs.Image.{imageSize, decodeImage};
-ghost use Rattle.image.specs.View.{logLength, callRefusal};
-ghost use Rattle.image.specs.Append.{appendRefusal, stored, appended, formatted};
-ghost use Rattle.image.specs.Answers.{formatAnswer, appendAnswer};
+ghost use Rattle.image.specs.Image.{imageSize};
+ghost use Rattle.image.specs.View.{callRefusal};
+ghost use Rattle.image.specs.Append.{stored, appended, formatted};
+ghost use Rattle.image.specs.Answers.{formatAnswer, appendCallAnswer};
 use image::AppendAnswer;
 use image::FormatAnswer;
+use locate::MAX_PAYLOAD;
+use locate::entry_at;
+use locate::record_at;
 use view::call_refusal;
+use view::last_epoch;
 use view::view_image;
 use write::put_blank;
 use write::put_entry;
@@ -24,33 +28,32 @@ use write::put_record;
 
 // Writes m blank records behind the header.
 fn put_blanks(image: &mut [u8], m: usize)
-    requires { ⌜ (m ≤ 64) × (28 + 34 * m ≤ length (now image)) ⌝ }
-    ensures { λ _. ⌜ now (image .exit) ≡ spliced (now (image .entry)) 28 (joined m (λ k. blankRecord)) ⌝ }
+    requires { ⌜ (m ≤ 64) × (headerSize + recordSize * m ≤ length (now image)) ⌝ }
+    ensures { λ _. ⌜ now (image .exit) ≡ spliced (now (image .entry)) headerSize (joined m (λ k. blankRecord)) ⌝ }
 {
     let mut k: usize = 0;
     while k < m {
-        put_blank(image, 28 + 34 * k);
+        put_blank(image, record_at(k));
         k += 1;
     }
 }
 
 // Writes m fresh entries behind the records.
 fn put_freshes(image: &mut [u8], m: usize)
-    requires { ⌜ (m ≤ 64) × (28 + 34 * m + 240 * m ≤ length (now image)) ⌝ }
-    ensures { λ _. ⌜ now (image .exit) ≡ spliced (now (image .entry)) (28 + 34 * m) (joined m (λ k. freshEntry)) ⌝ }
+    requires { ⌜ (m ≤ 64) × (headerSize + recordSize * m + entrySize * m ≤ length (now image)) ⌝ }
+    ensures { λ _. ⌜ now (image .exit) ≡ spliced (now (image .entry)) (headerSize + recordSize * m) (joined m (λ k. freshEntry)) ⌝ }
 {
-    let start = 28 + 34 * m;
     let mut k: usize = 0;
     while k < m {
-        put_fresh(image, start + 240 * k);
+        put_fresh(image, entry_at(m, k));
         k += 1;
     }
 }
 
 // Makes a fresh image in a buffer of its size.
 pub fn format_image(image: &mut [u8], replica: usize, n: usize, m: usize) -> FormatAnswer
-    ensures { λ r. ⌜ (r ≡ formatAnswer (callRefusal replica n m (length (now (image .entry)))))
-        × (now (image .exit) ≡ formatted replica n m (now (image .entry))) ⌝ }
+    ensures answer { λ r. ⌜ r ≡ formatAnswer (callRefusal replica n m (length (now (image .entry)))) ⌝ }
+    ensures image { λ _. ⌜ now (image .exit) ≡ formatted replica n m (now (image .entry)) ⌝ }
 {
     let refusal = call_refusal(replica, n, m, image.len());
     if refusal != 0 {
@@ -62,20 +65,9 @@ pub fn format_image(image: &mut [u8], replica: usize, n: usize, m: usize) -> For
     FormatAnswer::Formatted
 }
 
-// The last used slot's epoch, 0 for an empty log.
-fn last_epoch(epochs: &[u32; 64], length: usize) -> u32
-    requires { ⌜ length ≤ 64 ⌝ }
-    ensures { λ r. ⌜ r ≡ cond (eqb length 0) 0 (getD (now (epochs .entry)) (length - 1) 0) ⌝ }
-{
-    if length == 0 {
-        return 0;
-    }
-    epochs[length - 1]
-}
-
 // Refusals 8 to 10 of an append to an image that is not refused.
 fn append_refusal(last: u32, length: usize, m: usize, epoch: u32, size: usize) -> u8
-    ensures { λ r. ⌜ r ≡ (refuse 8 (eqb epoch 0 || ltb epoch last) else refuse 9 (ltb 200 size) else refuse 10 (leb m length)) ⌝ }
+    ensures { λ r. ⌜ r ≡ (refuse 8 (eqb epoch 0 || ltb epoch last) else refuse 9 (ltb maxPayload size) else refuse 10 (leb m length)) ⌝ }
 {
     if epoch == 0 {
         return 8;
@@ -83,7 +75,7 @@ fn append_refusal(last: u32, length: usize, m: usize, epoch: u32, size: usize) -
     if epoch < last {
         return 8;
     }
-    if 200 < size {
+    if MAX_PAYLOAD < size {
         return 9;
     }
     if m <= length {
@@ -94,12 +86,12 @@ fn append_refusal(last: u32, length: usize, m: usize, epoch: u32, size: usize) -
 
 // Writes the entry and then the record of slot k.
 fn put_slot(image: &mut [u8], m: usize, k: usize, epoch: u32, payload: &[u8])
-    requires { ⌜ (m ≤ 64) × (k < m) × (length (now image) ≡ imageSize m) × (length (now payload) ≤ 200) ⌝ }
+    requires { ⌜ (m ≤ 64) × (k < m) × (length (now image) ≡ imageSize m) × (length (now payload) ≤ maxPayload) ⌝ }
     ensures { λ _. ⌜ now (image .exit) ≡ stored m (now (image .entry)) k epoch (now (payload .entry)) ⌝ }
 {
     let index = (k + 1) as u32;
-    put_entry(image, 28 + 34 * m + 240 * k, epoch, index, payload);
-    put_record(image, 28 + 34 * k, epoch, index);
+    put_entry(image, entry_at(m, k), epoch, index, payload);
+    put_record(image, record_at(k), epoch, index);
 }
 
 // Appends to the first unused slot, and answers its number.
@@ -111,8 +103,8 @@ pub fn append_entry(
     epoch: u32,
     payload: &[u8],
 ) -> AppendAnswer
-    ensures { λ r. ⌜ (r ≡ appendAnswer (appendRefusal replica n m (now (image .entry)) epoch (length (now (payload .entry)))) (logLength m (decodeImage replica n m (now (image .entry)))))
-        × (now (image .exit) ≡ appended replica n m (now (image .entry)) epoch (now (payload .entry))) ⌝ }
+    ensures answer { λ r. ⌜ r ≡ appendCallAnswer replica n m (now (image .entry)) epoch (length (now (payload .entry))) ⌝ }
+    ensures image { λ _. ⌜ now (image .exit) ≡ appended replica n m (now (image .entry)) epoch (now (payload .entry)) ⌝ }
 {
     let refusal = call_refusal(replica, n, m, image.len());
     if refusal != 0 {
@@ -125,7 +117,7 @@ pub fn append_entry(
     }
     let used = seen.length;
     let epochs = seen.epochs;
-    let denied = append_refusal(last_epoch(&epochs, used), used, m, epoch, payload.len());
+    let denied = append_refusal(last_epoch(&epochs, 0, used), used, m, epoch, payload.len());
     if denied != 0 {
         return AppendAnswer::Refused(denied);
     }

@@ -25,9 +25,9 @@ pub high-none : (x : ℕ) → x ≡ 0 → 32 ≡ highByte x
 unfolding highByte
 high-none x h = rw (eq-eqb _ _ h) refl
 
-pub high-digit : (x : ℕ) → (x ≡ 0 → ⊥) → 48 + x % 10 ≡ highByte x
-unfolding highByte
-high-digit x h = rw (ne-eqb _ _ h) refl
+pub high-last : (x : ℕ) → (x ≡ 0 → ⊥) → lastByte x ≡ highByte x
+unfolding lastByte highByte
+high-last x h = rw (ne-eqb _ _ h) refl
 
 -- an empty column
 pub column-none : (s : Bytes) (x : ℕ) → length s ≡ 0 → s ≡ column (length s) x

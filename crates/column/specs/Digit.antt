@@ -1,4 +1,4 @@
--- The bytes of a column, one by one.
+-- For proofs only. The bytes of a column, one by one.
 use Prim.Native.Nat.{ℕ, _+_, _%_}
 use mathlib.Core.Bool.{cond}
 use lib.Dec.{eqb}

@@ -100,9 +100,11 @@ module _ (last len m e size : ℕ) where
         deny-none h = sym (rw (ne-eqb e 0 p, le-ltb e last q, le-ltb 200 size s, lt-leb m len h))
 
 -- the last epoch as the scan has it
-pub last-seen : (m : ℕ) (i : Image) {len : ℕ} {cs es : List ℕ} → Seen m i len cs es → cond (eqb len 0) 0 (getD es (len - 1) 0) ≡ lastEpoch m i
+pub last-seen : (m : ℕ) (i : Image) {len : ℕ} {cs es : List ℕ} → Seen m i len cs es → cond (eqb len 0) 0 (getD es (0 + len - 1) 0) ≡ lastEpoch m i
 unfolding lastEpoch
-last-seen m i {len} {es = es} s = rw (← s .length-is) (go (ℕ-discrete len 0))
+last-seen m i {len} {es = es} s =
+    let z : 0 + len ≡ len = omega arith in
+    rw (z, ← s .length-is) (go (ℕ-discrete len 0))
   where
     go : Dec (len ≡ 0) → cond (eqb len 0) 0 (getD es (len - 1) 0) ≡ cond (eqb len 0) 0 (epochAt i (len - 1))
     go (yes q) = rw (eq-eqb len 0 q)
@@ -129,7 +131,7 @@ module _ (c n m : ℕ) (b : Bytes) (e size : ℕ) {r : ℕ} (call : r ≡ callRe
     unfolding appendRefusal
     refused-image h = else-first _ _ (λ q. h (sym reading ∙ q)) ∙ reading
 
-    pub refused-append : {len last d : ℕ} {cs es : List ℕ} → v ≡ 0 → Seen m (decodeImage c n m b) len cs es → last ≡ cond (eqb len 0) 0 (getD es (len - 1) 0)
+    pub refused-append : {len last d : ℕ} {cs es : List ℕ} → v ≡ 0 → Seen m (decodeImage c n m b) len cs es → last ≡ cond (eqb len 0) 0 (getD es (0 + len - 1) 0)
         → d ≡ (refuse 8 (eqb e 0 || ltb e last) else refuse 9 (ltb 200 size) else refuse 10 (leb m len)) → appendRefusal c n m b e size ≡ d
     unfolding appendRefusal
     refused-append h s l k = else-next _ (reading ∙ h) ∙ sym (rw (l ∙ last-seen m (decodeImage c n m b) s, s .length-is) at k)
@@ -139,7 +141,7 @@ module _ (c n m : ℕ) (b : Bytes) (e size : ℕ) {r : ℕ} (call : r ≡ callRe
       pub used-few : len ≤ 64
       used-few = omega (arith, s .length-is, length-le m (decodeImage c n m b), slots-high m (called-slots c n m (length b) (sym call ∙ free)))
 
-      pub slot-free : {last d : ℕ} → last ≡ cond (eqb len 0) 0 (getD es (len - 1) 0)
+      pub slot-free : {last d : ℕ} → last ≡ cond (eqb len 0) 0 (getD es (0 + len - 1) 0)
           → d ≡ (refuse 8 (eqb e 0 || ltb e last) else refuse 9 (ltb 200 size) else refuse 10 (leb m len)) → d ≡ 0
           → (m ≤ 64) × (len < m) × (length b ≡ imageSize m) × (size ≤ 200)
       slot-free l k z =
@@ -148,21 +150,19 @@ module _ (c n m : ℕ) (b : Bytes) (e size : ℕ) {r : ℕ} (call : r ≡ callRe
 
 -- ---- appending: the slot
 
-module _ (m k : ℕ) (b : Bytes) (km : k < m) (size : length b ≡ imageSize m) where
-  pub entry-room : 28 + 34 * m + 240 * k + 240 ≤ length b
-  unfolding entryAt
+module _ (m k : ℕ) (b : Bytes) (km : k < m) (size : length b ≡ imageSize m) {at : ℕ} (place : at ≡ entryAt m k) where
+  pub entry-room : at + 240 ≤ length b
   entry-room = omega (arith, entry-fits m k km)
 
-  module _ (e : ℕ) (p : Bytes) (short : length p ≤ 200) {x : Bytes} (q : x ≡ spliced b (28 + 34 * m + 240 * k) (entryBytes e (k + 1) p)) where
-    pub record-room : 28 + 34 * k + 34 ≤ length x
-    unfolding recordAt
+  module _ (e : ℕ) (p : Bytes) (short : length p ≤ 200) {x : Bytes} (q : x ≡ spliced b at (entryBytes e (k + 1) p)) {on : ℕ} (line : on ≡ recordAt k) where
+    pub record-room : on + 34 ≤ length x
     record-room =
-        let l = length-spliced b (28 + 34 * m + 240 * k) (entryBytes e (k + 1) p) (omega (arith, length-entry e (k + 1) p short, entry-room)) in
+        let l = length-spliced b at (entryBytes e (k + 1) p) (omega (arith, length-entry e (k + 1) p short, entry-room)) in
         omega (arith, ap length q, l, record-fits m k km)
 
-    pub slot-stored : {y : Bytes} → y ≡ spliced x (28 + 34 * k) (recordBytes e (k + 1)) → y ≡ stored m b k e p
-    unfolding stored recordAt entryAt
-    slot-stored r = rw (r, q, add-one)
+    pub slot-stored : {y : Bytes} → y ≡ spliced x on (recordBytes e (k + 1)) → y ≡ stored m b k e p
+    unfolding stored
+    slot-stored r = rw (r, q, add-one, place, line)
 
 -- ---- appending: what is answered and left
 

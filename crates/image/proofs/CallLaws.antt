@@ -1,8 +1,7 @@
 -- Refusals 1 to 3, test by test.
-use Prim.Native.Nat.{ℕ, _+_, _*_, _≤_, _<_}
+use Prim.Native.Nat.{ℕ, _≤_, _<_}
 use mathlib.Core.Path.{_≡_, sym}
 use mathlib.Core.Bool.{true, false, not, _&&_}
-use native.Mathlib.Omega.{arith}
 use lib.Dec.{eqb, leb}
 use borrow.Author.Tests.{leb-true, le-leb, lt-leb, eqb-true, eq-eqb, ne-eqb, not-false}
 use Rattle.slices.proofs.SameLaws.{and-left, and-right, and-off}
@@ -10,7 +9,6 @@ use Rattle.image.specs.Refusal.{refuse, _else_}
 use Rattle.image.specs.Image.{imageSize}
 use Rattle.image.specs.View.{isSize, isReplica, isSlots, callRefusal}
 use Rattle.image.proofs.RefusalLaws.{refuse-zero, else-zero-l, else-zero-r}
-use Rattle.image.proofs.DecodeLaws.{size-is}
 
 -- ---- how many slots there may be
 
@@ -80,13 +78,13 @@ module _ (c n m size : ℕ) where
     call-replica h = sym (rw (slots, h, and-off (isSize n)))
 
     module _ (sizes : isSize n ≡ true) (replica : isReplica n c ≡ true) where
-      pub call-bytes : ¬ (size ≡ 28 + 274 * m) → 3 ≡ callRefusal c n m size
+      pub call-bytes : ¬ (size ≡ imageSize m) → 3 ≡ callRefusal c n m size
       unfolding callRefusal refuse _else_
-      call-bytes h = sym (rw (slots, sizes, replica, ne-eqb size (imageSize m) (λ e. h (omega (arith, size-is m)))))
+      call-bytes h = sym (rw (slots, sizes, replica, ne-eqb size (imageSize m) h))
 
-      pub call-none : size ≡ 28 + 274 * m → 0 ≡ callRefusal c n m size
+      pub call-none : size ≡ imageSize m → 0 ≡ callRefusal c n m size
       unfolding callRefusal refuse _else_
-      call-none h = sym (rw (slots, sizes, replica, eq-eqb size (imageSize m) (omega (arith, size-is m))))
+      call-none h = sym (rw (slots, sizes, replica, eq-eqb size (imageSize m) h))
 
 -- what holds of a call that is not refused
 module _ (c n m size : ℕ) (none : callRefusal c n m size ≡ 0) where

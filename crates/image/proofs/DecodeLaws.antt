@@ -20,6 +20,15 @@ pub size-is : (m : ℕ) → imageSize m ≡ 28 + 34 * m + 240 * m
 unfolding imageSize
 size-is m = refl
 
+-- where they begin
+pub record-begins : (k : ℕ) → recordAt k ≡ 28 + 34 * k
+unfolding recordAt
+record-begins k = refl
+
+pub entry-begins : (m k : ℕ) → entryAt m k ≡ 28 + 34 * m + 240 * k
+unfolding entryAt
+entry-begins m k = refl
+
 -- a record and an entry lie within the image
 pub record-fits : (m k : ℕ) → k < m → recordAt k + 34 ≤ imageSize m
 unfolding recordAt imageSize

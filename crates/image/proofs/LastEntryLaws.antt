@@ -12,9 +12,9 @@ use Rattle.slices.proofs.PartLaws.{length-part}
 use Rattle.slices.proofs.SpliceLaws.{length-spliced, spliced-twice, spliced-back}
 use Rattle.slices.proofs.NestedLaws.{spliced-comm}
 use Rattle.record.specs.Layout.{recordBytes, blankRecord, entryBytes}
-use Rattle.record.specs.Meaning.{Record, good, blank, bad, Entry, intact, broken, isEpoch, readRecord, readEntry}
+use Rattle.record.specs.Meaning.{Record, good, blank, bad, Entry, intact, broken}
 use Rattle.record.specs.Exactly.{GoodFor}
-use Rattle.record.proofs.LayoutLaws.{length-record, length-blank, length-entry}
+use Rattle.record.proofs.LayoutLaws.{length-blank, length-entry}
 use Rattle.record.proofs.RecordLaws.{good-for, read-blank, epoch-low, epoch-high}
 use Rattle.image.specs.Image.{Image, imageSize, recordAt, entryAt, decodeImage, setRecord}
 use Rattle.image.specs.View.{Condition, Unused, Whole, RecordLost, Faulty, Lost, condition, epochOf, conditionAt, epochAt, logLength, readRefusal}

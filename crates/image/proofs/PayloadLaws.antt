@@ -1,12 +1,12 @@
 -- Whether a slot has a payload, and where it stands.
-use Prim.Native.Nat.{ℕ, suc, _+_, _-_, _*_, _≤_, _<_}
+use Prim.Native.Nat.{ℕ, suc, _+_, _-_, _≤_, _<_}
 use mathlib.Core.Path.{_≡_, refl, sym, ap, _∙_}
 use mathlib.Core.Bool.{Bool, true, false, not, _&&_, _||_}
 use mathlib.Core.List.{List}
 use native.Mathlib.Omega.{arith}
 use lib.Dec.{eqb, leb}
 use lib.ListN.{length, take, getD}
-use borrow.Author.Tests.{eq-eqb, ne-eqb, le-leb, lt-leb, leb-true, not-true}
+use borrow.Author.Tests.{ne-eqb, le-leb, lt-leb, leb-true, not-true}
 use Rattle.slices.specs.Parts.{Bytes, part}
 use Rattle.slices.proofs.SameLaws.{and-left, and-right, and-off, clash}
 use Rattle.slices.proofs.PartLaws.{part-part}
@@ -47,18 +47,12 @@ module _ (m slot : ℕ) (cs : List ℕ) where
   whole-high h i e = sym (rw (lt-leb slot m h) (simp and-off))
 
   module _ (lo : 1 ≤ slot) (hi : slot ≤ m) where
-    whole-at : (i : Image) → take m cs ≡ conditionsOf m i → hasPayload m i slot ≡ (eqb (getD cs (slot - 1) 0) 1 || eqb (getD cs (slot - 1) 0) 2)
+    pub whole-at : (i : Image) → take m cs ≡ conditionsOf m i → hasPayload m i slot ≡ (eqb (getD cs (slot - 1) 0) 1 || eqb (getD cs (slot - 1) 0) 2)
     unfolding hasPayload conditionsOf
     whole-at i e =
         rw (le-leb 1 slot lo, le-leb slot m hi)
         (whole-number (conditionAt i (slot - 1))
         ∙ rw (taken-at m (λ k. conditionNumber (conditionAt i k)) cs e (slot - 1) (omega arith)))
-
-    pub whole-first : getD cs (slot - 1) 0 ≡ 1 → (i : Image) → take m cs ≡ conditionsOf m i → true ≡ hasPayload m i slot
-    whole-first h i e = sym (whole-at i e ∙ rw (eq-eqb (getD cs (slot - 1) 0) 1 h))
-
-    pub whole-second : ¬ (getD cs (slot - 1) 0 ≡ 1) → (i : Image) → take m cs ≡ conditionsOf m i → eqb (getD cs (slot - 1) 0) 2 ≡ hasPayload m i slot
-    whole-second h i e = sym (whole-at i e ∙ rw (ne-eqb (getD cs (slot - 1) 0) 1 h))
 
 module _ (m slot : ℕ) (i : Image) (h : hasPayload m i slot ≡ true) where
   within : leb 1 slot && leb slot m ≡ true
@@ -123,17 +117,14 @@ module _ (m : ℕ) (b : Bytes) (k : ℕ) (h : k < m) (a : EntryState) (there : (
     pub span-short : l ≤ 200
     span-short = found .0
 
-    pub span-fits : length b ≡ imageSize m → 28 + 34 * m + 240 * k + 26 + l ≤ length b
-    unfolding entryAt
-    span-fits size = omega (arith, entry-fits m k h, span-short)
+    module _ {at : ℕ} (place : at ≡ entryAt m k + 26) where
+      pub span-fits : length b ≡ imageSize m → at + l ≤ length b
+      span-fits size = omega (arith, entry-fits m k h, span-short)
 
-    pub span-there :
-        (part b (28 + 34 * m + 240 * k + 26) (28 + 34 * m + 240 * k + 26 + l - (28 + 34 * m + 240 * k + 26)) ≡ entryPayload (part b (entryAt m k) 240))
-        × (28 + 34 * m + 240 * k + 26 ≡ entryAt m k + 26)
-    unfolding entryAt
-    span-there =
-        let z : 28 + 34 * m + 240 * k + 26 + l - (28 + 34 * m + 240 * k + 26) ≡ l = omega arith in
-        (rw z (sym (found .1 ∙ part-part b (28 + 34 * m + 240 * k) 240 26 l (omega (arith, span-short)))), refl)
+      pub span-there : (part b at (at + l - at) ≡ entryPayload (part b (entryAt m k) 240)) × (at ≡ entryAt m k + 26)
+      span-there =
+          let z : at + l - at ≡ l = omega arith in
+          (rw (z, place) (sym (found .1 ∙ part-part b (entryAt m k) 240 26 l (omega (arith, span-short)))), place)
 
 pub span-empty : (size : ℕ) → SpanIn size 0 0
 span-empty size = record { ordered = omega arith; within = omega arith }

@@ -40,8 +40,8 @@ module _ (b : Bytes) (a s : ℕ) (v : Bytes) (size : length v ≡ s) where
   pub fill-length : (k : ℕ) {t : Bytes} → t ≡ spliced b a (joined k (λ j. v)) → a + s * k ≤ length b → length t ≡ length b
   fill-length k e h = ap length e ∙ length-spliced b a (joined k (λ j. v)) (omega (arith, copies k))
 
-  pub fill-step : (k : ℕ) {t u : Bytes} → t ≡ spliced b a (joined k (λ j. v)) → u ≡ spliced t (a + s * k) v → a + s * k ≤ length b
+  pub fill-step : (k : ℕ) {at : ℕ} → at ≡ a + s * k → {t u : Bytes} → t ≡ spliced b a (joined k (λ j. v)) → u ≡ spliced t at v → a + s * k ≤ length b
       → u ≡ spliced b a (joined (k + 1) (λ j. v))
   unfolding joined
-  fill-step k e f h =
-      f ∙ ap (λ (t : Bytes). spliced t (a + s * k) v) e ∙ rw add-one (spliced-more b (joined k (λ j. v)) v a (a + s * k) (omega (arith, copies k)) h)
+  fill-step k {at} p e f h =
+      f ∙ ap (λ (t : Bytes). spliced t at v) e ∙ rw (p, add-one) (spliced-more b (joined k (λ j. v)) v a (a + s * k) (omega (arith, copies k)) h)

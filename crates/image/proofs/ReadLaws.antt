@@ -11,7 +11,7 @@ use Rattle.search.proofs.ListedLaws.{listed-cong}
 use Rattle.slices.specs.Parts.{Bytes}
 use Rattle.slices.proofs.SameLaws.{and-off}
 use Rattle.image.specs.declared.ReadAnswer.the-variants as read
-use Rattle.image.specs.Refusal.{refuse}
+use Rattle.image.specs.Refusal.{refuse, unlessRefused}
 use Rattle.image.specs.Image.{Image, imageSize, decodeImage}
 use Rattle.image.specs.View.{epochAt, isSlots, callRefusal, imageRefusal, readRefusal}
 use Rattle.image.specs.Seen.{Seen}
@@ -68,16 +68,16 @@ module _ (c n m : ℕ) (b : Bytes) (es vs r : ℕ) (e : r ≡ readRefusal c n m 
 
 -- a refused call changes nothing lent
 pub read-refused : {q r : ℕ} → q ≡ r → ¬ (r ≡ 0) → (len : ℕ) (x es y vs : List ℕ)
-    → (read.Refused r ≡ readAnswer q len) × (es ≡ cond (eqb q 0) x es) × (vs ≡ cond (eqb q 0) y vs)
-unfolding readAnswer
+    → (read.Refused r ≡ readAnswer q len) × (es ≡ unlessRefused q x es) × (vs ≡ unlessRefused q y vs)
+unfolding readAnswer unlessRefused
 read-refused {q} {r} e h len x es y vs = (sym (rw (e, off)), sym (rw (e, off)), sym (rw (e, off)))
   where
     off : eqb r 0 ≡ false
     off = ne-eqb r 0 h
 
 pub read-done : {q : ℕ} → q ≡ 0 → (len used : ℕ) (x es es′ y vs vs′ : List ℕ) → used ≡ len → es′ ≡ x → vs′ ≡ y
-    → (read.Length used ≡ readAnswer q len) × (es′ ≡ cond (eqb q 0) x es) × (vs′ ≡ cond (eqb q 0) y vs)
-unfolding readAnswer
+    → (read.Length used ≡ readAnswer q len) × (es′ ≡ unlessRefused q x es) × (vs′ ≡ unlessRefused q y vs)
+unfolding readAnswer unlessRefused
 read-done {q} e len used x es es′ y vs vs′ l p v = (rw (e, l), rw (e, p), rw (e, v))
 
 -- what the view tells is what the buffers are filled from

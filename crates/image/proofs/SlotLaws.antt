@@ -1,5 +1,5 @@
 -- One slot of the scan: what its record and its entry are found to be gives its condition and its epoch.
-use Prim.Native.Nat.{ℕ, _+_, _-_, _*_, _≤_, _<_}
+use Prim.Native.Nat.{ℕ, _+_, _-_, _≤_, _<_}
 use mathlib.Core.Path.{_≡_, refl, sym, _∙_}
 use mathlib.Core.List.{List, [], _∷_}
 use native.Mathlib.Omega.{arith}
@@ -19,34 +19,23 @@ use Rattle.record.specs.declared.RecordState.the-variants.{Good, Blank, Bad}
 use Rattle.record.specs.declared.EntryState.{EntryState}
 use Rattle.record.specs.declared.EntryState.the-variants.{Intact, Broken}
 use Rattle.record.proofs.RecordState.{the-type}
-use Rattle.image.specs.Image.{Image, imageSize, recordAt, entryAt, decodeImage}
+use Rattle.image.specs.Image.{Image, recordAt, entryAt, decodeImage}
 use Rattle.image.specs.View.{condition, epochOf, conditionAt, epochAt}
 use Rattle.image.specs.View.{conditionNumber}
 use Rattle.image.specs.Seen.{conditionsOf}
 use Rattle.image.specs.Scan.{SlotIs, Scanned}
-use Rattle.image.proofs.DecodeLaws.{record-there, entry-there, record-fits, entry-fits}
+use Rattle.image.proofs.DecodeLaws.{record-there, entry-there}
 
 -- ---- the parts of the image that are judged
 
-pub record-there-fits : (m k : ℕ) → k < m → 28 + 34 * k + 34 ≤ imageSize m
-unfolding recordAt
-record-there-fits m k h = record-fits m k h
-
-pub entry-there-fits : (m k : ℕ) → k < m → 28 + 34 * m + 240 * k + 240 ≤ imageSize m
-unfolding entryAt
-entry-there-fits m k h = entry-fits m k h
-
-module _ (m : ℕ) (b : Bytes) (k : ℕ) (h : k < m) where
-  pub record-judged : {a : RecordState} → a ≡ recordAnswer (readRecord (k + 1) (take (28 + 34 * k + 34 - (28 + 34 * k)) (drop (28 + 34 * k) b)))
+module _ (m : ℕ) (b : Bytes) (k : ℕ) (h : k < m) {at : ℕ} where
+  pub record-judged : at ≡ recordAt k → {a : RecordState} → a ≡ recordAnswer (readRecord (k + 1) (take (at + 34 - at) (drop at b)))
       → (c n : ℕ) → a ≡ recordAnswer (decodeImage c n m b .records k)
-  unfolding recordAt
-  record-judged e c n = e ∙ rw (add-one, part-lent b (28 + 34 * k) 34, record-there c n m b k h)
+  record-judged p e c n = e ∙ rw (add-one, part-lent b at 34, record-there c n m b k h, p)
 
-  pub entry-judged : {a : EntryState}
-      → a ≡ entryAnswer (readEntry (k + 1) (take (28 + 34 * m + 240 * k + 240 - (28 + 34 * m + 240 * k)) (drop (28 + 34 * m + 240 * k) b)))
+  pub entry-judged : at ≡ entryAt m k → {a : EntryState} → a ≡ entryAnswer (readEntry (k + 1) (take (at + 240 - at) (drop at b)))
       → (c n : ℕ) → a ≡ entryAnswer (decodeImage c n m b .entries k)
-  unfolding entryAt
-  entry-judged e c n = e ∙ rw (add-one, part-lent b (28 + 34 * m + 240 * k) 240, entry-there c n m b k h)
+  entry-judged p e c n = e ∙ rw (add-one, part-lent b at 240, entry-there c n m b k h, p)
 
 -- ---- a good record
 

@@ -1,5 +1,5 @@
 -- The verdicts of an image's slots, as they are worked out and filled in.
-use Prim.Native.Nat.{ℕ, zero, suc, _+_, _-_, _*_, _≤_, _<_}
+use Prim.Native.Nat.{ℕ, zero, suc, _+_, _-_, _≤_, _<_}
 use mathlib.Core.Path.{_≡_, refl, sym, ap, _∙_}
 use mathlib.Core.Bool.{Bool, true, false, not}
 use mathlib.Core.List.{List}
@@ -58,17 +58,14 @@ fresh-is k s = go (readEntry k s) (entry-is k s)
     go (intact e p) i = sym (same-differs s freshEntry (λ q. fresh-not-intact k e p (rw q at i)))
     go (broken z) h = rw (h .0)
 
-module _ (m : ℕ) (b : Bytes) (k : ℕ) (size : length b ≡ imageSize m) where
-  abbrev at : ℕ
-  at = 28 + 34 * m + 240 * k
-
+module _ (m : ℕ) (b : Bytes) (k : ℕ) (size : length b ≡ imageSize m) {at : ℕ} (place : at ≡ entryAt m k) where
   pub fresh-judged : {t : Bool} → t ≡ same (take (at + 240 - at) (drop at b)) (replicate (length (take (at + 240 - at) (drop at b))) 32)
       → (c n : ℕ) → k < m → not t ≡ not (isFresh (decodeImage c n m b .entries k))
-  unfolding entryAt freshEntry
+  unfolding freshEntry
   fresh-judged e c n h =
       let l : length (part b at 240) ≡ 240 = length-part b at 240 (omega (arith, entry-fits m k h)) in
       let q : same (take (at + 240 - at) (drop at b)) (replicate (length (take (at + 240 - at) (drop at b))) 32) ≡ isFresh (decodeImage c n m b .entries k)
-      = rw (part-lent b at 240, l, entry-there c n m b k h) (sym (fresh-is (suc k) (part b at 240))) in
+      = rw (part-lent b at 240, l, entry-there c n m b k h, ← place) (sym (fresh-is (suc k) (part b at 240))) in
       ap not (e ∙ q)
 
 -- ---- the verdict of a slot

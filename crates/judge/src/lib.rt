@@ -5,19 +5,31 @@ ghost use mathlib.Core.List.{_++_};
 ghost use lib.ListN.{length, take, drop, replicate};
 ghost use Rattle.slices.specs.Parts.{part};
 ghost use Rattle.slices.specs.Same.{same};
-ghost use Rattle.record.specs.Layout.{headerBytes, blankRecord};
+ghost use Rattle.record.specs.Layout.{recordSize, entrySize, headerBytes, blankRecord};
 ghost use Rattle.record.specs.Meaning.{readRecord, readEntry, isGood, isIntact};
 ghost use Rattle.record.specs.Judged.{sealOf, isFront, recordAnswer, entryAnswer};
+use locate::BLANK_SIZE;
+use locate::ENTRY_SIZE;
+use locate::FRONT_SIZE;
+use locate::HEADER_SIZE;
+use locate::INDEX_AT;
+use locate::MAX_PAYLOAD;
+use locate::NUMBER_WIDTH;
+use locate::PAYLOAD_AT;
+use locate::SEAL_SIZE;
 use record::EntryState;
 use record::RecordState;
 
+// Epochs are 1 to this.
+const LAST_EPOCH: u64 = 4294967295;
+
 // Whether the checksum of what stands before `at`, and a newline, stand at `at`.
 fn is_sealed(s: &[u8], at: usize) -> bool
-    requires { ⌜ (at ≤ 240) × (at + 12 ≤ length (now s)) ⌝ }
+    requires { ⌜ (at ≤ entrySize) × (at + 12 ≤ length (now s)) ⌝ }
     ensures { λ r. ⌜ r ≡ same (part (now (s .entry)) at 12) (sealOf (take at (now (s .entry)))) ⌝ }
 {
-    let e = at + 11;
-    if s[e] != 10 {
+    let e = at + NUMBER_WIDTH;
+    if s[e] != b'\n' {
         return false;
     }
     let sum = sum::checksum_of(&s[0..at]);
@@ -28,7 +40,7 @@ fn is_sealed(s: &[u8], at: usize) -> bool
 pub fn is_header(s: &[u8], replica: usize, n: usize, m: usize) -> bool
     ensures { λ r. ⌜ r ≡ same (now (s .entry)) (headerBytes replica n m) ⌝ }
 {
-    let mut w = [0u8; 28];
+    let mut w = [0u8; HEADER_SIZE];
     write::write_header(&mut w, replica, n, m);
     copy::same_bytes(s, &w)
 }
@@ -41,43 +53,43 @@ fn is_front(s: &[u8], index: u32, epoch: u64) -> bool
     if epoch < 1 {
         return false;
     }
-    if 4294967295 < epoch {
+    if LAST_EPOCH < epoch {
         return false;
     }
-    if !spell::holds_number(&s[0..11], epoch) {
+    if !spell::holds_number(&s[0..INDEX_AT], epoch) {
         return false;
     }
-    spell::holds_number(&s[11..22], index as u64)
+    spell::holds_number(&s[INDEX_AT..FRONT_SIZE], index as u64)
 }
 
 // Whether the record is the writer's for this index and epoch.
 fn is_good(s: &[u8], index: u32, epoch: u64) -> bool
-    requires { ⌜ length (now s) ≡ 34 ⌝ }
+    requires { ⌜ length (now s) ≡ recordSize ⌝ }
     ensures { λ r. ⌜ r ≡ isGood index epoch (now (s .entry)) ⌝ }
 {
     if !is_front(s, index, epoch) {
         return false;
     }
-    is_sealed(s, 22)
+    is_sealed(s, FRONT_SIZE)
 }
 
 // Whether a record is blank.
 fn is_blank(s: &[u8]) -> bool
-    requires { ⌜ length (now s) ≡ 34 ⌝ }
+    requires { ⌜ length (now s) ≡ recordSize ⌝ }
     ensures { λ r. ⌜ r ≡ same (now (s .entry)) blankRecord ⌝ }
 {
-    if s[33] != 10 {
+    if s[BLANK_SIZE] != b'\n' {
         return false;
     }
-    copy::all_bytes(&s[0..33], 32)
+    copy::all_bytes(&s[0..BLANK_SIZE], b' ')
 }
 
 // Judges the record of an index: good with its epoch, blank, or bad.
 pub fn judge_record(s: &[u8], index: u32) -> RecordState
-    requires { ⌜ length (now s) ≡ 34 ⌝ }
+    requires { ⌜ length (now s) ≡ recordSize ⌝ }
     ensures { λ r. ⌜ r ≡ recordAnswer (readRecord index (now (s .entry))) ⌝ }
 {
-    let epoch = spell::number_in(&s[0..11]);
+    let epoch = spell::number_in(&s[0..INDEX_AT]);
     if is_good(s, index, epoch) {
         return RecordState::Good(epoch as u32);
     }
@@ -89,42 +101,45 @@ pub fn judge_record(s: &[u8], index: u32) -> RecordState
 
 // Whether the entry is the writer's for this index, epoch and the payload of that length that stands in it.
 fn is_intact(s: &[u8], index: u32, epoch: u64, size: usize) -> bool
-    requires { ⌜ length (now s) ≡ 240 ⌝ }
+    requires { ⌜ length (now s) ≡ entrySize ⌝ }
     ensures { λ r. ⌜ r ≡ isIntact index epoch (part (now (s .entry)) 26 size) (now (s .entry)) ⌝ }
 {
-    if 200 < size {
+    if MAX_PAYLOAD < size {
         return false;
     }
     if !is_front(s, index, epoch) {
         return false;
     }
-    if !spell::holds_number(&s[22..26], size as u64) {
+    if !spell::holds_number(&s[FRONT_SIZE..PAYLOAD_AT], size as u64) {
         return false;
     }
-    is_closed(s, 26 + size)
+    is_closed(s, PAYLOAD_AT + size)
 }
 
 // Whether the seal of what stands before `at`, and then nothing but spaces, stand at `at`.
 fn is_closed(s: &[u8], at: usize) -> bool
-    requires { ⌜ (length (now s) ≡ 240) × (at + 12 ≤ 240) ⌝ }
-    ensures { λ r. ⌜ r ≡ same (drop at (now (s .entry))) (sealOf (take at (now (s .entry))) ++ replicate (240 - (at + 12)) 32) ⌝ }
+    requires { ⌜ (length (now s) ≡ entrySize) × (at + 12 ≤ entrySize) ⌝ }
+    ensures { λ r. ⌜ r ≡ same (drop at (now (s .entry))) (sealOf (take at (now (s .entry))) ++ replicate (entrySize - (at + 12)) 32) ⌝ }
 {
     if !is_sealed(s, at) {
         return false;
     }
-    let e = at + 12;
-    copy::all_bytes(&s[e..240], 32)
+    let e = at + SEAL_SIZE;
+    copy::all_bytes(&s[e..ENTRY_SIZE], b' ')
 }
 
 // Judges the entry of an index, given the part of the image that begins at its own start.
 pub fn judge_entry(s: &[u8], index: u32) -> EntryState
-    requires { ⌜ length (now s) ≡ 240 ⌝ }
+    requires { ⌜ length (now s) ≡ entrySize ⌝ }
     ensures { λ r. ⌜ r ≡ entryAnswer (readEntry index (now (s .entry))) ⌝ }
 {
-    let epoch = spell::number_in(&s[0..11]);
-    let size = spell::number_in(&s[22..26]) as usize;
+    let epoch = spell::number_in(&s[0..INDEX_AT]);
+    let size = spell::number_in(&s[FRONT_SIZE..PAYLOAD_AT]) as usize;
     if is_intact(s, index, epoch, size) {
-        return EntryState::Intact(epoch as u32, size);
+        return EntryState::Intact {
+            epoch: epoch as u32,
+            size,
+        };
     }
     EntryState::Broken
 }

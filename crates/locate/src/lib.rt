@@ -11,6 +11,41 @@ pub const RECORD_SIZE: usize = 34;
 
 pub const ENTRY_SIZE: usize = 240;
 
+// A blank record is so many spaces, and a newline.
+pub const BLANK_SIZE: usize = 33;
+
+// A number in a header is 3 bytes wide; an epoch, an index and a checksum are 11; a payload's length is 4.
+pub const SMALL_WIDTH: usize = 3;
+
+pub const NUMBER_WIDTH: usize = 11;
+
+pub const LENGTH_WIDTH: usize = 4;
+
+// A seal ends what it stands in: the checksum of all before it, and a newline.
+pub const SEAL_SIZE: usize = 12;
+
+// In a header, behind its word: edition, replica, n, m, and the seal.
+pub const EDITION_AT: usize = 4;
+
+pub const REPLICA_AT: usize = 7;
+
+pub const REPLICAS_AT: usize = 10;
+
+pub const SLOTS_AT: usize = 13;
+
+pub const HEADER_SEAL_AT: usize = 16;
+
+// In a record and in an entry: the epoch, then the index. In a record the seal follows; in an entry the payload's length, the payload and
+// the seal behind it.
+pub const INDEX_AT: usize = 11;
+
+pub const FRONT_SIZE: usize = 22;
+
+pub const PAYLOAD_AT: usize = 26;
+
+// A payload has at most so many bytes.
+pub const MAX_PAYLOAD: usize = 200;
+
 // An image has at most so many slots, and a cluster so many replicas.
 pub const MAX_SLOTS: usize = 64;
 

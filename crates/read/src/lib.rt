@@ -1,24 +1,30 @@
 // Reading for the caller: epochs and verdicts, and the payload of a slot.
 ghost use Prim.Native.Nat.{ℕ, _+_, _-_, _<_, _≤_};
 ghost use mathlib.Core.Path.{_≡_};
-ghost use mathlib.Core.Bool.{Bool, true, cond, not};
-ghost use lib.Dec.{eqb};
+ghost use mathlib.Core.Bool.{Bool, true, not};
 ghost use lib.ListN.{length, getD, take};
 ghost use Rattle.search.specs.Search.{listed};
 ghost use Rattle.slices.specs.Parts.{part};
+ghost use Rattle.record.specs.Layout.{entrySize};
 ghost use Rattle.record.specs.Meaning.{entryPayload};
 ghost use Rattle.image.specs.Image.{Image, imageSize, entryAt, decodeImage};
-ghost use Rattle.image.specs.View.{Condition, conditionAt, readRefusal, logLength};
+ghost use Rattle.image.specs.View.{Condition, conditionAt, readRefusal};
 ghost use Rattle.image.specs.View.{conditionNumber};
 ghost use Rattle.image.specs.Seen.{conditionsOf};
 ghost use Rattle.image.specs.Verdict.{isFresh, verdictOf};
 ghost use Rattle.image.specs.Scan.{Marked, SpanIn};
-ghost use Rattle.image.specs.Read.{lentRefusal, epochsOf, verdictsOf, isWhole, hasPayload, payloadOf, payloadAt};
-ghost use Rattle.image.specs.Answers.{readAnswer, payloadAnswer};
+ghost use Rattle.image.specs.Read.{verdictsOf, isWhole, hasPayload, payloadOf, payloadAt};
+ghost use Rattle.image.specs.Answers.{readCallAnswer, epochsLeft, verdictsLeft, payloadAnswer};
 use image::PayloadAnswer;
 use image::ReadAnswer;
+use image::condition;
+use locate::ENTRY_SIZE;
+use locate::MAX_SLOTS;
+use locate::PAYLOAD_AT;
+use locate::entry_at;
 use record::EntryState;
 use view::entry_state;
+use view::is_whole;
 use view::open_image;
 
 // Where a payload stands in the image.
@@ -35,26 +41,27 @@ fn is_unfinished(image: &[u8], m: usize, used: usize) -> bool
     if m <= used {
         return false;
     }
-    let a = 28 + 34 * m + 240 * used;
-    let e = a + 240;
-    !copy::all_bytes(&image[a..e], 32)
+    let a = entry_at(m, used);
+    let e = a + ENTRY_SIZE;
+    !copy::all_bytes(&image[a..e], b' ')
 }
 
 // The verdict of slot k of a log of so many used slots.
 fn verdict(condition: u8, k: usize, used: usize, unfinished: bool) -> u8
     requires { ⌜ k < 64 ⌝ }
-    ensures { λ r. ⌜ ((a : Condition) (fresh : Bool) → condition ≡ conditionNumber a → (k ≡ used → unfinished ≡ not fresh) → r ≡ verdictOf used k a fresh) ⌝ }
+    ensures { λ r. ⌜ ((a : Condition) (fresh : Bool) → condition ≡ conditionNumber a → (k ≡ used → unfinished ≡ not fresh)
+        → r ≡ verdictOf used k a fresh) ⌝ }
 {
-    if condition == 4 {
+    if condition == condition::LOST {
         return 0;
     }
-    if condition == 3 {
+    if condition == condition::FAULTY {
         if k + 1 == used {
             return 4;
         }
         return 3;
     }
-    if condition == 0 {
+    if condition == condition::UNUSED {
         if k != used {
             return 0;
         }
@@ -67,7 +74,7 @@ fn verdict(condition: u8, k: usize, used: usize, unfinished: bool) -> u8
 }
 
 // Gives the caller the epochs of its slots.
-fn fill_epochs(seen: &[u32; 64], epochs: &mut [u32])
+fn fill_epochs(seen: &[u32; MAX_SLOTS], epochs: &mut [u32])
     requires { ⌜ length (now epochs) ≤ 64 ⌝ }
     ensures { λ _. ⌜ now (epochs .exit) ≡ listed (length (now (epochs .entry))) (λ k. getD (now (seen .entry)) k 0) ⌝ }
 {
@@ -79,7 +86,7 @@ fn fill_epochs(seen: &[u32; 64], epochs: &mut [u32])
 }
 
 // Gives the caller the verdicts of its slots.
-fn fill_verdicts(conditions: &[u8; 64], used: usize, unfinished: bool, verdicts: &mut [u8])
+fn fill_verdicts(conditions: &[u8; MAX_SLOTS], used: usize, unfinished: bool, verdicts: &mut [u8])
     requires { ⌜ length (now verdicts) ≤ 64 ⌝ }
     ensures { λ _. ⌜ ((i : Image) → Marked (length (now (verdicts .entry))) i used (now (conditions .entry)) unfinished
         → now (verdicts .exit) ≡ verdictsOf (length (now (verdicts .entry))) i) ⌝ }
@@ -100,9 +107,9 @@ pub fn read_image(
     epochs: &mut [u32],
     verdicts: &mut [u8],
 ) -> ReadAnswer
-    ensures { λ r. ⌜ (r ≡ readAnswer (lentRefusal replica n m (now (image .entry)) (length (now (epochs .entry))) (length (now (verdicts .entry)))) (logLength m (decodeImage replica n m (now (image .entry)))))
-        × (now (epochs .exit) ≡ cond (eqb (lentRefusal replica n m (now (image .entry)) (length (now (epochs .entry))) (length (now (verdicts .entry)))) 0) (epochsOf m (decodeImage replica n m (now (image .entry)))) (now (epochs .entry)))
-        × (now (verdicts .exit) ≡ cond (eqb (lentRefusal replica n m (now (image .entry)) (length (now (epochs .entry))) (length (now (verdicts .entry)))) 0) (verdictsOf m (decodeImage replica n m (now (image .entry)))) (now (verdicts .entry))) ⌝ }
+    ensures { λ r. ⌜ (r ≡ readCallAnswer replica n m (now (image .entry)) (length (now (epochs .entry))) (length (now (verdicts .entry))))
+        × (now (epochs .exit) ≡ epochsLeft replica n m (now (image .entry)) (now (epochs .entry)) (length (now (verdicts .entry))))
+        × (now (verdicts .exit) ≡ verdictsLeft replica n m (now (image .entry)) (length (now (epochs .entry))) (now (verdicts .entry))) ⌝ }
 {
     let view = open_image(image, replica, n, m);
     let refusal = view.refusal;
@@ -124,8 +131,8 @@ pub fn read_image(
     ReadAnswer::Length(used)
 }
 
-// Whether a slot, by its number, is whole.
-fn is_whole(conditions: &[u8; 64], m: usize, slot: usize) -> bool
+// Whether a slot, by its number, is there and whole.
+fn holds_payload(conditions: &[u8; MAX_SLOTS], m: usize, slot: usize) -> bool
     requires { ⌜ m ≤ 64 ⌝ }
     ensures { λ r. ⌜ ((i : Image) → take m (now (conditions .entry)) ≡ conditionsOf m i → r ≡ hasPayload m i slot) ⌝ }
 {
@@ -135,16 +142,13 @@ fn is_whole(conditions: &[u8; 64], m: usize, slot: usize) -> bool
     if m < slot {
         return false;
     }
-    let condition = conditions[slot - 1];
-    if condition == 1 {
-        return true;
-    }
-    condition == 2
+    is_whole(conditions[slot - 1])
 }
 
 // Whether a slot has a payload.
 pub fn has_payload(image: &[u8], replica: usize, n: usize, m: usize, slot: usize) -> PayloadAnswer
-    ensures { λ r. ⌜ r ≡ payloadAnswer (readRefusal replica n m (now (image .entry))) (hasPayload m (decodeImage replica n m (now (image .entry))) slot) ⌝ }
+    ensures { λ r. ⌜ r ≡ payloadAnswer (readRefusal replica n m (now (image .entry)))
+        (hasPayload m (decodeImage replica n m (now (image .entry))) slot) ⌝ }
 {
     let view = open_image(image, replica, n, m);
     let refusal = view.refusal;
@@ -152,7 +156,7 @@ pub fn has_payload(image: &[u8], replica: usize, n: usize, m: usize, slot: usize
         return PayloadAnswer::Refused(refusal);
     }
     let conditions = view.conditions;
-    if is_whole(&conditions, m, slot) {
+    if holds_payload(&conditions, m, slot) {
         return PayloadAnswer::Present;
     }
     PayloadAnswer::Absent
@@ -163,12 +167,17 @@ fn entry_span(image: &[u8], m: usize, k: usize) -> Span
     requires { ⌜ (m ≤ 64) × (k < m) × (length (now image) ≡ imageSize m) ⌝ }
     ensures { λ r. ⌜ SpanIn (length (now (image .entry))) (r .start) (r .end)
         × ((c n : ℕ) → isWhole (conditionAt (decodeImage c n m (now (image .entry))) k) ≡ true
-        → (part (now (image .entry)) (r .start) (r .end - r .start) ≡ entryPayload (part (now (image .entry)) (entryAt m k) 240)) × (r .start ≡ entryAt m k + 26)) ⌝ }
+        → (part (now (image .entry)) (r .start) (r .end - r .start) ≡ entryPayload (part (now (image .entry)) (entryAt m k) entrySize))
+        × (r .start ≡ entryAt m k + 26)) ⌝ }
 {
-    let EntryState::Intact(_epoch, size) = entry_state(image, m, k) else {
+    let EntryState::Intact {
+        epoch: _epoch,
+        size,
+    } = entry_state(image, m, k)
+    else {
         return Span { start: 0, end: 0 };
     };
-    let start = 28 + 34 * m + 240 * k + 26;
+    let start = entry_at(m, k) + PAYLOAD_AT;
     Span {
         start,
         end: start + size,
@@ -187,7 +196,7 @@ pub fn payload_span(image: &[u8], replica: usize, n: usize, m: usize, slot: usiz
         return Span { start: 0, end: 0 };
     }
     let conditions = view.conditions;
-    if !is_whole(&conditions, m, slot) {
+    if !holds_payload(&conditions, m, slot) {
         return Span { start: 0, end: 0 };
     }
     entry_span(image, m, slot - 1)

@@ -10,7 +10,7 @@ pub enum RecordState {
 
 // What an entry is found to be: intact with its epoch and its payload's length, or not.
 pub enum EntryState {
-    Intact(u32, usize),
+    Intact { epoch: u32, size: usize },
     Broken,
 }
 

@@ -142,7 +142,10 @@ pub extern "C" fn rope_judge_entry(s: &[u8], index: u32, epoch: &mut u32, size: 
         return 3;
     }
     match judge::judge_entry(s, index) {
-        record::EntryState::Intact(e, length) => {
+        record::EntryState::Intact {
+            epoch: e,
+            size: length,
+        } => {
             *epoch = e;
             *size = length;
             0

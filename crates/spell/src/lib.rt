@@ -13,7 +13,7 @@ use column::ColumnState;
 fn last_byte(x: u64) -> u8
     ensures { λ r. ⌜ r ≡ lastByte x ⌝ }
 {
-    (48 + x % 10) as u8
+    b'0' + (x % 10) as u8
 }
 
 // A byte before the last one, for what is left of the number.
@@ -21,9 +21,9 @@ fn high_byte(x: u64) -> u8
     ensures { λ r. ⌜ r ≡ highByte x ⌝ }
 {
     if x == 0 {
-        return 32;
+        return b' ';
     }
-    (48 + x % 10) as u8
+    last_byte(x)
 }
 
 // Writes x over the whole slice, right-justified.
@@ -81,13 +81,13 @@ fn digit_step(v: u64, b: u8) -> u64
     requires { ⌜ v < 1000000000000000000 ⌝ }
     ensures { λ r. ⌜ r ≡ digitStep v b ⌝ }
 {
-    if b < 48 {
+    if b < b'0' {
         return v;
     }
-    if 57 < b {
+    if b'9' < b {
         return v;
     }
-    v * 10 + (b - 48) as u64
+    v * 10 + (b - b'0') as u64
 }
 
 // The only number that can stand in the slice, if any does.
@@ -113,7 +113,7 @@ pub fn read_column(s: &[u8]) -> ColumnState
     if holds_number(s, v) {
         return ColumnState::Number(v);
     }
-    if copy::all_bytes(s, 32) {
+    if copy::all_bytes(s, b' ') {
         return ColumnState::Blank;
     }
     ColumnState::Malformed

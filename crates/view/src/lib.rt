@@ -12,6 +12,13 @@ ghost use Rattle.image.specs.View.{isSize, isSlots, callRefusal, imageRefusal, 
 ghost use Rattle.image.specs.Seen.{Seen};
 ghost use Rattle.image.specs.Scan.{SlotIs, Scanned, lengthIn, noGapIn, noneLostIn, risingIn, scanRefusal};
 use image::condition;
+use locate::ENTRY_SIZE;
+use locate::HEADER_SIZE;
+use locate::MAX_SLOTS;
+use locate::RECORD_SIZE;
+use locate::entry_at;
+use locate::image_size;
+use locate::record_at;
 use record::EntryState;
 use record::RecordState;
 
@@ -23,8 +30,8 @@ struct Slot {
 
 // Every slot of an image; those from m on are 0.
 struct Slots {
-    conditions: [u8; 64],
-    epochs: [u32; 64],
+    conditions: [u8; MAX_SLOTS],
+    epochs: [u32; MAX_SLOTS],
 }
 
 // What is seen of an image: its refusal, 0 if it has none. If it has none, the log's length, and for each slot its
@@ -32,8 +39,8 @@ struct Slots {
 pub struct ImageView {
     pub refusal: u8,
     pub length: usize,
-    pub conditions: [u8; 64],
-    pub epochs: [u32; 64],
+    pub conditions: [u8; MAX_SLOTS],
+    pub epochs: [u32; MAX_SLOTS],
 }
 
 // Whether a cluster may have n replicas.
@@ -56,7 +63,7 @@ pub fn call_refusal(replica: usize, n: usize, m: usize, size: usize) -> u8
     if m < 1 {
         return 1;
     }
-    if 64 < m {
+    if MAX_SLOTS < m {
         return 1;
     }
     if !is_size(n) {
@@ -68,20 +75,20 @@ pub fn call_refusal(replica: usize, n: usize, m: usize, size: usize) -> u8
     if n < replica {
         return 2;
     }
-    if size != 28 + 274 * m {
+    if size != image_size(m) {
         return 3;
     }
     0
 }
 
 // The log's length: the first slot that is unused.
-fn log_length(conditions: &[u8; 64], m: usize) -> usize
+fn log_length(conditions: &[u8; MAX_SLOTS], m: usize) -> usize
     requires { ⌜ m ≤ 64 ⌝ }
     ensures { λ r. ⌜ r ≡ lengthIn m (now (conditions .entry)) ⌝ }
 {
     let mut k: usize = 0;
     while k < m {
-        if conditions[k] == 0 {
+        if conditions[k] == condition::UNUSED {
             return k;
         }
         k += 1;
@@ -90,13 +97,13 @@ fn log_length(conditions: &[u8; 64], m: usize) -> usize
 }
 
 // Whether a slot behind the log's end is used.
-fn has_gap(conditions: &[u8; 64], m: usize, length: usize) -> bool
+fn has_gap(conditions: &[u8; MAX_SLOTS], m: usize, length: usize) -> bool
     requires { ⌜ (m ≤ 64) × (length ≤ m) ⌝ }
     ensures { λ r. ⌜ r ≡ not (noGapIn m length (now (conditions .entry))) ⌝ }
 {
     let mut k = length;
     while k < m {
-        if conditions[k] != 0 {
+        if conditions[k] != condition::UNUSED {
             return true;
         }
         k += 1;
@@ -105,13 +112,13 @@ fn has_gap(conditions: &[u8; 64], m: usize, length: usize) -> bool
 }
 
 // Whether a slot has lost both its record and its entry.
-fn has_lost(conditions: &[u8; 64], m: usize) -> bool
+fn has_lost(conditions: &[u8; MAX_SLOTS], m: usize) -> bool
     requires { ⌜ m ≤ 64 ⌝ }
     ensures { λ r. ⌜ r ≡ not (noneLostIn m (now (conditions .entry))) ⌝ }
 {
     let mut k: usize = 0;
     while k < m {
-        if conditions[k] == 4 {
+        if conditions[k] == condition::LOST {
             return true;
         }
         k += 1;
@@ -120,7 +127,7 @@ fn has_lost(conditions: &[u8; 64], m: usize) -> bool
 }
 
 // Whether a used slot's epoch is below the one before it.
-fn falls(epochs: &[u32; 64], m: usize, length: usize) -> bool
+fn falls(epochs: &[u32; MAX_SLOTS], m: usize, length: usize) -> bool
     requires { ⌜ (m ≤ 64) × (length ≤ m) ⌝ }
     ensures { λ r. ⌜ r ≡ not (risingIn m length (now (epochs .entry))) ⌝ }
 {
@@ -135,7 +142,12 @@ fn falls(epochs: &[u32; 64], m: usize, length: usize) -> bool
 }
 
 // Refusals 5 to 7, each over the whole image.
-fn scan_refusal(conditions: &[u8; 64], epochs: &[u32; 64], m: usize, length: usize) -> u8
+fn scan_refusal(
+    conditions: &[u8; MAX_SLOTS],
+    epochs: &[u32; MAX_SLOTS],
+    m: usize,
+    length: usize,
+) -> u8
     requires { ⌜ (m ≤ 64) × (length ≤ m) ⌝ }
     ensures { λ r. ⌜ r ≡ scanRefusal m length (now (conditions .entry)) (now (epochs .entry)) ⌝ }
 {
@@ -156,8 +168,8 @@ fn record_state(image: &[u8], m: usize, k: usize) -> RecordState
     requires { ⌜ (m ≤ 64) × (k < m) × (length (now image) ≡ imageSize m) ⌝ }
     ensures { λ r. ⌜ ((c n : ℕ) → r ≡ recordAnswer (decodeImage c n m (now (image .entry)) .records k)) ⌝ }
 {
-    let a = 28 + 34 * k;
-    let e = a + 34;
+    let a = record_at(k);
+    let e = a + RECORD_SIZE;
     judge::judge_record(&image[a..e], (k + 1) as u32)
 }
 
@@ -166,8 +178,8 @@ pub fn entry_state(image: &[u8], m: usize, k: usize) -> EntryState
     requires { ⌜ (m ≤ 64) × (k < m) × (length (now image) ≡ imageSize m) ⌝ }
     ensures { λ r. ⌜ ((c n : ℕ) → r ≡ entryAnswer (decodeImage c n m (now (image .entry)) .entries k)) ⌝ }
 {
-    let a = 28 + 34 * m + 240 * k;
-    let e = a + 240;
+    let a = entry_at(m, k);
+    let e = a + ENTRY_SIZE;
     judge::judge_entry(&image[a..e], (k + 1) as u32)
 }
 
@@ -175,20 +187,24 @@ pub fn entry_state(image: &[u8], m: usize, k: usize) -> EntryState
 fn good_slot(epoch: u32, entry: EntryState) -> Slot
     ensures { λ r. ⌜ ((x : Entry) → entry ≡ entryAnswer x → SlotIs (good epoch) x (r .condition) (r .epoch)) ⌝ }
 {
-    let EntryState::Intact(written, _size) = entry else {
+    let EntryState::Intact {
+        epoch: written,
+        size: _size,
+    } = entry
+    else {
         return Slot {
-            condition: 3,
+            condition: condition::FAULTY,
             epoch,
         };
     };
     if written == epoch {
         return Slot {
-            condition: 1,
+            condition: condition::WHOLE,
             epoch,
         };
     }
     Slot {
-        condition: 3,
+        condition: condition::FAULTY,
         epoch,
     }
 }
@@ -197,14 +213,14 @@ fn good_slot(epoch: u32, entry: EntryState) -> Slot
 fn bad_slot(entry: EntryState) -> Slot
     ensures { λ r. ⌜ ((b : List ℕ) (x : Entry) → entry ≡ entryAnswer x → SlotIs (bad b) x (r .condition) (r .epoch)) ⌝ }
 {
-    let EntryState::Intact(epoch, _size) = entry else {
+    let EntryState::Intact { epoch, size: _size } = entry else {
         return Slot {
-            condition: 4,
+            condition: condition::LOST,
             epoch: 0,
         };
     };
     Slot {
-        condition: 2,
+        condition: condition::RECORD_LOST,
         epoch,
     }
 }
@@ -212,13 +228,14 @@ fn bad_slot(entry: EntryState) -> Slot
 // One slot of the scan. A blank record's entry is not judged.
 fn slot_at(image: &[u8], m: usize, k: usize) -> Slot
     requires { ⌜ (m ≤ 64) × (k < m) × (length (now image) ≡ imageSize m) ⌝ }
-    ensures { λ r. ⌜ ((c n : ℕ) → SlotIs (decodeImage c n m (now (image .entry)) .records k) (decodeImage c n m (now (image .entry)) .entries k) (r .condition) (r .epoch)) ⌝ }
+    ensures { λ r. ⌜ ((c n : ℕ) → SlotIs (decodeImage c n m (now (image .entry)) .records k) (decodeImage c n m (now (image .entry)) .entries k)
+        (r .condition) (r .epoch)) ⌝ }
 {
     let record = record_state(image, m, k);
     let RecordState::Good(epoch) = record else {
         if let RecordState::Blank = record {
             return Slot {
-                condition: 0,
+                condition: condition::UNUSED,
                 epoch: 0,
             };
         }
@@ -232,8 +249,8 @@ fn scan(image: &[u8], m: usize) -> Slots
     requires { ⌜ (m ≤ 64) × (length (now image) ≡ imageSize m) ⌝ }
     ensures { λ r. ⌜ ((c n : ℕ) → Scanned m (decodeImage c n m (now (image .entry))) (r .conditions) (r .epochs)) ⌝ }
 {
-    let mut conditions = [0u8; 64];
-    let mut epochs = [0u32; 64];
+    let mut conditions = [condition::UNUSED; MAX_SLOTS];
+    let mut epochs = [0u32; MAX_SLOTS];
     let mut k: usize = 0;
     while k < m {
         let slot = slot_at(image, m, k);
@@ -251,18 +268,19 @@ fn refused_view(refusal: u8) -> ImageView
     ImageView {
         refusal,
         length: 0,
-        conditions: [0u8; 64],
-        epochs: [0u32; 64],
+        conditions: [condition::UNUSED; MAX_SLOTS],
+        epochs: [0u32; MAX_SLOTS],
     }
 }
 
 // Views an image whose numbers and size were judged.
 pub fn view_image(image: &[u8], replica: usize, n: usize, m: usize) -> ImageView
     requires { ⌜ (isSlots m ≡ true) × (length (now image) ≡ imageSize m) ⌝ }
-    ensures { λ r. ⌜ (r .refusal ≡ imageRefusal m (decodeImage replica n m (now (image .entry))))
-        × (r .refusal ≡ 0 → Seen m (decodeImage replica n m (now (image .entry))) (r .length) (r .conditions) (r .epochs)) ⌝ }
+    ensures refusal { λ r. ⌜ r .refusal ≡ imageRefusal m (decodeImage replica n m (now (image .entry))) ⌝ }
+    ensures seen { λ r. ⌜ (r .refusal ≡ 0
+        → Seen m (decodeImage replica n m (now (image .entry))) (r .length) (r .conditions) (r .epochs)) ⌝ }
 {
-    if !judge::is_header(&image[0..28], replica, n, m) {
+    if !judge::is_header(&image[0..HEADER_SIZE], replica, n, m) {
         return refused_view(4);
     }
     let seen = scan(image, m);
@@ -280,8 +298,9 @@ pub fn view_image(image: &[u8], replica: usize, n: usize, m: usize) -> ImageView
 
 // Views an image as the caller names it: refusals 1 to 7.
 pub fn open_image(image: &[u8], replica: usize, n: usize, m: usize) -> ImageView
-    ensures { λ r. ⌜ (r .refusal ≡ readRefusal replica n m (now (image .entry)))
-        × (r .refusal ≡ 0 → Seen m (decodeImage replica n m (now (image .entry))) (r .length) (r .conditions) (r .epochs)) ⌝ }
+    ensures refusal { λ r. ⌜ r .refusal ≡ readRefusal replica n m (now (image .entry)) ⌝ }
+    ensures seen { λ r. ⌜ (r .refusal ≡ 0
+        → Seen m (decodeImage replica n m (now (image .entry))) (r .length) (r .conditions) (r .epochs)) ⌝ }
 {
     let refusal = call_refusal(replica, n, m, image.len());
     if refusal != 0 {

@@ -1,5 +1,5 @@
 -- `append_entry` answers the first refusal that applies, and else stores the first unused slot.
-use mathlib.Core.Path.{sym, _∙_}
+use mathlib.Core.Path.{_≡_, sym, _∙_}
 use native.Mathlib.Omega.{arith}
 use lib.ListN.{length}
 use borrow.Author.Needs.{needs}
@@ -35,6 +35,9 @@ returns-2 c =
     let view = c .before .view-image .ensures in
     append-refused (s .replica) (s .n) (s .m) (s .image .now) (s .epoch) (s .payload .now) (refused-image (s .replica) (s .n) (s .m) (s .image .now) (s .epoch) (length (s .payload .now)) call free (view .0) (c .if2 .taken)) (c .if2 .taken)
 
+slice-aggregate-last-epoch : tie.Need-slice-aggregate-last-epoch
+slice-aggregate-last-epoch c = search needs
+
 last-epoch-requires : tie.Need-last-epoch-requires
 last-epoch-requires c κs =
     let s = c .before .before .before .before .before .before .before .before .before .args in
@@ -42,7 +45,8 @@ last-epoch-requires c κs =
     let free = c .before .before .before .before .before .if1 .left in
     let view = c .before .before .before .view-image .ensures in
     let readable = c .before .before .if2 .left in
-    used-few (s .replica) (s .n) (s .m) (s .image .now) (s .epoch) (length (s .payload .now)) call free (view .0) readable (view .1 readable)
+    let sized : length (c .before .before .before .view-image .result .epochs) ≡ 64 = search needs in
+    omega (arith, sized, used-few (s .replica) (s .n) (s .m) (s .image .now) (s .epoch) (length (s .payload .now)) call free (view .0) readable (view .1 readable))
 
 append-refusal-requires : tie.Need-append-refusal-requires
 append-refusal-requires c κs = search needs
@@ -98,6 +102,7 @@ append-entry-spec =
     view-image-requires
     same-length
     returns-2
+    slice-aggregate-last-epoch
     last-epoch-requires
     append-refusal-requires
     same-length-2

@@ -1,12 +1,13 @@
 -- `put_blanks` leaves k blank records behind the header after k rounds.
 use Prim.Native.Nat.{_-_, _≤_}
-use mathlib.Core.Path.{_≡_}
+use mathlib.Core.Path.{_≡_, _∙_}
 use native.Mathlib.Omega.{arith}
 use borrow.Author.Needs.{needs}
 use Rattle.search.specs.Search.{joined}
 use Rattle.slices.specs.Parts.{spliced}
 use Rattle.record.specs.Layout.{blankRecord}
 use Rattle.record.proofs.LayoutLaws.{length-blank}
+use Rattle.image.proofs.DecodeLaws.{record-begins}
 use Rattle.image.proofs.PutLaws.{fill-start, fill-length, fill-step}
 use Rattle.append.proofs.put_blanks.Statement.{statement}
 use Rattle.append.proofs.put_blanks.Tie as tie
@@ -20,17 +21,14 @@ abbrev μ-loop : tie.MeasureT-loop
 loop-holds : tie.Need-loop-holds Inv-loop μ-loop
 loop-holds c = (omega arith, fill-start _ 28 34 blankRecord length-blank)
 
-mul-put-blank : tie.Need-mul-put-blank Inv-loop μ-loop
-mul-put-blank c = search needs
-
-add-put-blank : tie.Need-add-put-blank Inv-loop μ-loop
-add-put-blank c = search needs
+record-at-requires : tie.Need-record-at-requires Inv-loop μ-loop
+record-at-requires c κs = search needs
 
 put-blank-requires : tie.Need-put-blank-requires Inv-loop μ-loop
 put-blank-requires c κs =
-    let w = c .before .before .loop in
-    let l = fill-length (c .before .before .before .before .args .image .now) 28 34 blankRecord length-blank (w .k) (w .inv .1) (omega arith) in
-    omega arith
+    let w = c .before .before .before .loop in
+    let l = fill-length (c .before .before .before .before .before .args .image .now) 28 34 blankRecord length-blank (w .k) (w .inv .1) (omega arith) in
+    omega (arith, record-begins (w .k))
 
 add-k : tie.Need-add-k Inv-loop μ-loop
 add-k c = search needs
@@ -40,8 +38,8 @@ loop-less c = search needs
 
 loop-again : tie.Need-loop-again Inv-loop μ-loop
 loop-again c =
-    let w = c .before .before .before .before .before .loop in
-    (omega arith, fill-step (c .before .before .before .before .before .before .before .args .image .now) 28 34 blankRecord length-blank (w .k) (w .inv .1) (c .before .before .put-blank .ensures) (omega arith))
+    let w = c .before .before .before .before .before .before .loop in
+    (omega arith, fill-step (c .before .before .before .before .before .before .before .before .args .image .now) 28 34 blankRecord length-blank (w .k) (c .before .before .before .record-at .ensures ∙ record-begins (w .k)) (w .inv .1) (c .before .before .put-blank .ensures) (omega arith))
 
 same-length : tie.Need-same-length Inv-loop μ-loop
 same-length c =
@@ -61,8 +59,7 @@ put-blanks-spec =
     Inv-loop
     μ-loop
     loop-holds
-    mul-put-blank
-    add-put-blank
+    record-at-requires
     put-blank-requires
     add-k
     loop-less

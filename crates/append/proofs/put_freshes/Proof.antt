@@ -1,42 +1,34 @@
 -- `put_freshes` leaves k fresh entries behind the records after k rounds.
 use Prim.Native.Nat.{_+_, _-_, _*_, _≤_}
-use mathlib.Core.Path.{_≡_}
+use mathlib.Core.Path.{_≡_, _∙_}
 use native.Mathlib.Omega.{arith}
 use borrow.Author.Needs.{needs}
 use Rattle.search.specs.Search.{joined}
 use Rattle.slices.specs.Parts.{spliced}
 use Rattle.record.specs.Layout.{freshEntry}
 use Rattle.record.proofs.LayoutLaws.{length-fresh}
+use Rattle.image.proofs.DecodeLaws.{entry-begins}
 use Rattle.image.proofs.PutLaws.{fill-start, fill-length, fill-step}
 use Rattle.append.proofs.put_freshes.Statement.{statement}
 use Rattle.append.proofs.put_freshes.Tie as tie
 
 abbrev Inv-loop : tie.InvT-loop
-Inv-loop image₀ m start k₀ image k = (k ≤ m) × (image ≡ spliced image₀ (28 + 34 * m) (joined k (λ j. freshEntry)))
+Inv-loop image₀ m k₀ image k = (k ≤ m) × (image ≡ spliced image₀ (28 + 34 * m) (joined k (λ j. freshEntry)))
 
 abbrev μ-loop : tie.MeasureT-loop
-μ-loop image₀ m start k₀ image k = m - k
-
-mul-start : tie.Need-mul-start Inv-loop μ-loop
-mul-start c = search needs
-
-add-start : tie.Need-add-start Inv-loop μ-loop
-add-start c = search needs
+μ-loop image₀ m k₀ image k = m - k
 
 loop-holds : tie.Need-loop-holds Inv-loop μ-loop
 loop-holds c = (omega arith, fill-start _ (28 + 34 * _) 240 freshEntry length-fresh)
 
-mul-put-fresh : tie.Need-mul-put-fresh Inv-loop μ-loop
-mul-put-fresh c = search needs
-
-add-put-fresh : tie.Need-add-put-fresh Inv-loop μ-loop
-add-put-fresh c = search needs
+entry-at-requires : tie.Need-entry-at-requires Inv-loop μ-loop
+entry-at-requires c κs = search needs
 
 put-fresh-requires : tie.Need-put-fresh-requires Inv-loop μ-loop
 put-fresh-requires c κs =
-    let w = c .before .before .loop in
-    let l = fill-length (c .before .before .before .before .args .image .now) (28 + 34 * c .before .before .before .before .args .m) 240 freshEntry length-fresh (w .k) (w .inv .1) (omega arith) in
-    omega arith
+    let w = c .before .before .before .loop in
+    let l = fill-length (c .before .before .before .before .before .args .image .now) (28 + 34 * c .before .before .before .before .before .args .m) 240 freshEntry length-fresh (w .k) (w .inv .1) (omega arith) in
+    omega (arith, entry-begins (c .before .before .before .before .before .args .m) (w .k))
 
 add-k : tie.Need-add-k Inv-loop μ-loop
 add-k c = search needs
@@ -46,8 +38,8 @@ loop-less c = search needs
 
 loop-again : tie.Need-loop-again Inv-loop μ-loop
 loop-again c =
-    let w = c .before .before .before .before .before .loop in
-    (omega arith, fill-step (c .before .before .before .before .before .before .before .args .image .now) (28 + 34 * c .before .before .before .before .before .before .before .args .m) 240 freshEntry length-fresh (w .k) (w .inv .1) (c .before .before .put-fresh .ensures) (omega arith))
+    let w = c .before .before .before .before .before .before .loop in
+    (omega arith, fill-step (c .before .before .before .before .before .before .before .before .args .image .now) (28 + 34 * c .before .before .before .before .before .before .before .before .args .m) 240 freshEntry length-fresh (w .k) (c .before .before .before .entry-at .ensures ∙ entry-begins (c .before .before .before .before .before .before .before .before .args .m) (w .k)) (w .inv .1) (c .before .before .put-fresh .ensures) (omega arith))
 
 same-length : tie.Need-same-length Inv-loop μ-loop
 same-length c =
@@ -66,11 +58,8 @@ put-freshes-spec =
     (tie.spec
     Inv-loop
     μ-loop
-    mul-start
-    add-start
     loop-holds
-    mul-put-fresh
-    add-put-fresh
+    entry-at-requires
     put-fresh-requires
     add-k
     loop-less

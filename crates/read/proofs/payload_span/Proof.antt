@@ -14,20 +14,20 @@ open-image-requires c κs = search needs
 returns : tie.Need-returns
 returns c = (span-empty _, no-payload-refused _ _ _ _ _ _ (c .before .open-image .ensures .0) (c .if1 .taken))
 
-is-whole-requires : tie.Need-is-whole-requires
-is-whole-requires c κs = slots-high _ (opened-slots _ _ _ _ _ (c .before .before .before .open-image .ensures .0) (c .before .before .if1 .left))
+holds-payload-requires : tie.Need-holds-payload-requires
+holds-payload-requires c κs = slots-high _ (opened-slots _ _ _ _ _ (c .before .before .before .open-image .ensures .0) (c .before .before .if1 .left))
 
 returns-2 : tie.Need-returns-2
-returns-2 c = (span-empty _, no-payload _ _ _ _ _ _ (c .before .before .before .before .before .open-image .ensures .0) _ (c .before .is-whole .ensures _ (c .before .before .before .before .before .open-image .ensures .1 (c .before .before .before .before .if1 .left) .conditions-are)) (c .if2 .taken))
+returns-2 c = (span-empty _, no-payload _ _ _ _ _ _ (c .before .before .before .before .before .open-image .ensures .0) _ (c .before .holds-payload .ensures _ (c .before .before .before .before .before .open-image .ensures .1 (c .before .before .before .before .if1 .left) .conditions-are)) (c .if2 .taken))
 
 sub-entry-span : tie.Need-sub-entry-span
-sub-entry-span c = has-low _ _ _ (sym (c .before .is-whole .ensures _ (c .before .before .before .before .before .open-image .ensures .1 (c .before .before .before .before .if1 .left) .conditions-are)) ∙ not-false _ (c .if2 .left))
+sub-entry-span c = has-low _ _ _ (sym (c .before .holds-payload .ensures _ (c .before .before .before .before .before .open-image .ensures .1 (c .before .before .before .before .if1 .left) .conditions-are)) ∙ not-false _ (c .if2 .left))
 
 entry-span-requires : tie.Need-entry-span-requires
-entry-span-requires c κs = (slots-high _ (opened-slots _ _ _ _ _ (c .before .before .before .before .before .open-image .ensures .0) (c .before .before .before .before .if1 .left)), has-below _ _ _ (sym (c .before .is-whole .ensures _ (c .before .before .before .before .before .open-image .ensures .1 (c .before .before .before .before .if1 .left) .conditions-are)) ∙ not-false _ (c .if2 .left)), opened-size _ _ _ _ _ (c .before .before .before .before .before .open-image .ensures .0) (c .before .before .before .before .if1 .left))
+entry-span-requires c κs = (slots-high _ (opened-slots _ _ _ _ _ (c .before .before .before .before .before .open-image .ensures .0) (c .before .before .before .before .if1 .left)), has-below _ _ _ (sym (c .before .holds-payload .ensures _ (c .before .before .before .before .before .open-image .ensures .1 (c .before .before .before .before .if1 .left) .conditions-are)) ∙ not-false _ (c .if2 .left)), opened-size _ _ _ _ _ (c .before .before .before .before .before .open-image .ensures .0) (c .before .before .before .before .if1 .left))
 
 returns-3 : tie.Need-returns-3
-returns-3 c = (c .entry-span .ensures .0, payload-there _ _ _ _ _ _ (c .before .before .before .before .before .before .open-image .ensures .0) (c .before .before .before .before .before .if1 .left) (sym (c .before .before .is-whole .ensures _ (c .before .before .before .before .before .before .open-image .ensures .1 (c .before .before .before .before .before .if1 .left) .conditions-are)) ∙ not-false _ (c .before .if2 .left)) _ (c .entry-span .ensures .1 _ _ (has-whole _ _ _ (sym (c .before .before .is-whole .ensures _ (c .before .before .before .before .before .before .open-image .ensures .1 (c .before .before .before .before .before .if1 .left) .conditions-are)) ∙ not-false _ (c .before .if2 .left)))))
+returns-3 c = (c .entry-span .ensures .0, payload-there _ _ _ _ _ _ (c .before .before .before .before .before .before .open-image .ensures .0) (c .before .before .before .before .before .if1 .left) (sym (c .before .before .holds-payload .ensures _ (c .before .before .before .before .before .before .open-image .ensures .1 (c .before .before .before .before .before .if1 .left) .conditions-are)) ∙ not-false _ (c .before .if2 .left)) _ (c .entry-span .ensures .1 _ _ (has-whole _ _ _ (sym (c .before .before .holds-payload .ensures _ (c .before .before .before .before .before .before .open-image .ensures .1 (c .before .before .before .before .before .if1 .left) .conditions-are)) ∙ not-false _ (c .before .if2 .left)))))
 
 pub payload-span-spec : {M : Type 1} → statement M
 payload-span-spec =
@@ -35,7 +35,7 @@ payload-span-spec =
     (tie.spec
     open-image-requires
     returns
-    is-whole-requires
+    holds-payload-requires
     returns-2
     sub-entry-span
     entry-span-requires

@@ -1,17 +1,17 @@
 -- `last_byte` is a digit.
-use borrow.Author.Needs.{needs}
 use Rattle.column.proofs.LoopLaws.{last-digit}
+use borrow.Author.Needs.{needs}
 use Rattle.spell.proofs.last_byte.Statement.{statement}
 use Rattle.spell.proofs.last_byte.Tie as tie
 
-add-result : tie.Need-add-result
-add-result c = search needs
-
 cast-result : tie.Need-cast-result
 cast-result c = search needs
+
+add-result : tie.Need-add-result
+add-result c = search needs
 
 returns : tie.Need-returns
 returns c = last-digit _
 
 pub last-byte-spec : {M : Type 1} → statement M
-last-byte-spec = tie.close (tie.spec add-result cast-result returns)
+last-byte-spec = tie.close (tie.spec cast-result add-result returns)

@@ -25,17 +25,14 @@ returns-4 c = call-replica _ _ _ _ (is-slots _ (omega arith) (omega arith)) (rep
 returns-5 : tie.Need-returns-5
 returns-5 c = call-replica _ _ _ _ (is-slots _ (omega arith) (omega arith)) (replica-high _ _ (omega arith))
 
-mul-if6 : tie.Need-mul-if6
-mul-if6 c = search needs
-
-add-if6 : tie.Need-add-if6
-add-if6 c = search needs
+image-size-requires : tie.Need-image-size-requires
+image-size-requires c κs = search needs
 
 returns-6 : tie.Need-returns-6
-returns-6 c = call-bytes _ _ _ _ (is-slots _ (omega arith) (omega arith)) (sym (c .before .before .before .before .is-size .ensures) ∙ not-false _ (c .before .before .before .if3 .left)) (is-replica _ _ (omega arith) (omega arith)) (c .if6 .taken)
+returns-6 c = call-bytes _ _ _ _ (is-slots _ (omega arith) (omega arith)) (sym (c .before .before .before .before .before .is-size .ensures) ∙ not-false _ (c .before .before .before .before .if3 .left)) (is-replica _ _ (omega arith) (omega arith)) (λ e. c .if6 .taken (e ∙ sym (c .before .image-size .ensures)))
 
 returns-7 : tie.Need-returns-7
-returns-7 c = call-none _ _ _ _ (is-slots _ (omega arith) (omega arith)) (sym (c .before .before .before .before .is-size .ensures) ∙ not-false _ (c .before .before .before .if3 .left)) (is-replica _ _ (omega arith) (omega arith)) (c .if6 .left)
+returns-7 c = call-none _ _ _ _ (is-slots _ (omega arith) (omega arith)) (sym (c .before .before .before .before .before .is-size .ensures) ∙ not-false _ (c .before .before .before .before .if3 .left)) (is-replica _ _ (omega arith) (omega arith)) (c .if6 .left ∙ c .before .image-size .ensures)
 
 pub call-refusal-spec : {M : Type 1} → statement M
 call-refusal-spec =
@@ -47,7 +44,6 @@ call-refusal-spec =
     returns-3
     returns-4
     returns-5
-    mul-if6
-    add-if6
+    image-size-requires
     returns-6
     returns-7)
