@@ -73,7 +73,7 @@ module _ (refusal k : ℕ) (after new : Bytes) (written : after ≡ new) (old : 
 
 -- ---- reading
 
-module _ (refusal used : ℕ) (e es e′ v vs v′ : Bytes) (epochs : e′ ≡ cond (eqb refusal 0) e es) (verdicts : v′ ≡ cond (eqb refusal 0) v vs) (old : ℕ) where
+module _ (refusal used : ℕ) (e es e′ v vs v′ : Bytes) (epochs : e′ ≡ unlessRefused refusal e es) (verdicts : v′ ≡ unlessRefused refusal v vs) (old : ℕ) where
   pub read-done :
       (len : ℕ) →
       read.Length len ≡ readAnswer refusal used →

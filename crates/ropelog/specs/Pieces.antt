@@ -9,7 +9,7 @@ use Rattle.slices.specs.Same.{same}
 use Rattle.column.specs.ColumnState.{columnState}
 use Rattle.column.specs.declared.ColumnState.{ColumnState}
 use Rattle.column.specs.declared.ColumnState.the-variants as column-state
-use Rattle.record.specs.Layout.{headerBytes}
+use Rattle.record.specs.Layout.{recordSize, entrySize, maxPayload, headerBytes}
 use Rattle.record.specs.Meaning.{readRecord, readEntry}
 use Rattle.record.specs.Judged.{recordAnswer, entryAnswer}
 use Rattle.record.specs.declared.RecordState.{RecordState}
@@ -23,7 +23,7 @@ sizeRefusal size b = cond (eqb (length b) size) 0 3
 
 -- an entry's refusals: 3 for its length, then 9 for its payload's
 unfoldable pub entryRefusal : Bytes → Bytes → ℕ
-entryRefusal b p = cond (eqb (length b) 240) (cond (leb (length p) 200) 0 9) 3
+entryRefusal b p = cond (eqb (length b) entrySize) (cond (leb (length p) maxPayload) 0 9) 3
 
 -- 1 if the header is the writer's, else 0
 unfoldable pub headerCode : ℕ → ℕ → ℕ → Bytes → ℕ
@@ -60,10 +60,10 @@ recordStateOut record-state.Bad old = old
 
 -- 3 if the bytes are not as many as a record's
 unfoldable pub recordCode : ℕ → Bytes → ℕ
-recordCode k b = cond (eqb (length b) 34) (recordStateCode (recordAnswer (readRecord k b))) 3
+recordCode k b = cond (eqb (length b) recordSize) (recordStateCode (recordAnswer (readRecord k b))) 3
 
 unfoldable pub recordOut : ℕ → Bytes → ℕ → ℕ
-recordOut k b old = cond (eqb (length b) 34) (recordStateOut (recordAnswer (readRecord k b)) old) old
+recordOut k b old = cond (eqb (length b) recordSize) (recordStateOut (recordAnswer (readRecord k b)) old) old
 
 -- an entry's state by code, and its epoch and its payload's length if it is intact
 abbrev pub entryStateCode : EntryState → ℕ
@@ -80,10 +80,10 @@ entryStateSizeOut entry-state.Broken old = old
 
 -- 3 if the bytes are not as many as an entry's
 unfoldable pub entryCode : ℕ → Bytes → ℕ
-entryCode k b = cond (eqb (length b) 240) (entryStateCode (entryAnswer (readEntry k b))) 3
+entryCode k b = cond (eqb (length b) entrySize) (entryStateCode (entryAnswer (readEntry k b))) 3
 
 unfoldable pub entryEpochOut : ℕ → Bytes → ℕ → ℕ
-entryEpochOut k b old = cond (eqb (length b) 240) (entryStateEpochOut (entryAnswer (readEntry k b)) old) old
+entryEpochOut k b old = cond (eqb (length b) entrySize) (entryStateEpochOut (entryAnswer (readEntry k b)) old) old
 
 unfoldable pub entrySizeOut : ℕ → Bytes → ℕ → ℕ
-entrySizeOut k b old = cond (eqb (length b) 240) (entryStateSizeOut (entryAnswer (readEntry k b)) old) old
+entrySizeOut k b old = cond (eqb (length b) entrySize) (entryStateSizeOut (entryAnswer (readEntry k b)) old) old

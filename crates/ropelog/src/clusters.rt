@@ -1,13 +1,11 @@
 // The calls about a cluster, for any lent bytes: 0, or document 01's refusal by number. A refused call changes nothing that was lent.
 ghost use mathlib.Core.Path.{_≡_};
 ghost use lib.ListN.{length};
-ghost use Rattle.planner.specs.Setting.{settingOf};
-ghost use Rattle.planner.specs.Plan.{viewsIn, planBytes};
 ghost use Rattle.image.specs.Refusal.{unlessRefused};
-ghost use Rattle.planner.specs.Answers.{rowsOf};
-ghost use Rattle.protocol.specs.Call.{plan as planCall, step, run};
-ghost use Rattle.protocol.specs.CallResult.{callResult, callBytes};
+ghost use Rattle.protocol.specs.Call.{step, run};
+ghost use Rattle.protocol.specs.CallResult.{callBytes};
 ghost use Rattle.recovery.specs.Answers.{numbers, planAnswerResult};
+ghost use Rattle.ropelog.specs.Clusters.{planCalled, stepCalled, runCalled, planIn, rowsIn};
 ghost use Rattle.ropelog.specs.Clusters.{resultRefusal, resultStatus, resultNumber, resultReplica, resultSlot, resultKind, resultStores};
 use planner::PlanAnswer;
 use planner::ReplicaRow;
@@ -39,21 +37,24 @@ pub extern "C" fn rope_plan(
     cluster: &[u8],
     n: usize,
     m: usize,
-    leader: usize,
+    leading: usize,
     present: u32,
     plan: &mut [u8],
     rows: &mut [ReplicaRow],
     status: &mut u8,
     number: &mut usize,
 ) -> u8
-    ensures { λ r. ⌜ (r ≡ resultRefusal (callResult (numbers n m leader present) (planCall (length (now (plan .entry))) (length (now (rows .entry)))) (now (cluster .entry))))
-        × (now (plan .exit) ≡ unlessRefused r (planBytes (settingOf n m leader present) (viewsIn (settingOf n m leader present) (now (cluster .entry)))) (now (plan .entry)))
-        × (now (rows .exit) ≡ unlessRefused r (rowsOf (settingOf n m leader present) (viewsIn (settingOf n m leader present) (now (cluster .entry)))) (now (rows .entry)))
-        × (now (status .exit) ≡ resultStatus (callResult (numbers n m leader present) (planCall (length (now (plan .entry))) (length (now (rows .entry)))) (now (cluster .entry))) (now (status .entry)))
-        × (now (number .exit) ≡ resultNumber (callResult (numbers n m leader present) (planCall (length (now (plan .entry))) (length (now (rows .entry)))) (now (cluster .entry))) (now (number .entry))) ⌝ }
+    ensures { λ r. ⌜ (r ≡ resultRefusal (planCalled n m leading present (now (cluster .entry))
+        (length (now (plan .entry))) (length (now (rows .entry)))))
+        × (now (plan .exit) ≡ unlessRefused r (planIn n m leading present (now (cluster .entry))) (now (plan .entry)))
+        × (now (rows .exit) ≡ unlessRefused r (rowsIn n m leading present (now (cluster .entry))) (now (rows .entry)))
+        × (now (status .exit) ≡ resultStatus (planCalled n m leading present (now (cluster .entry))
+        (length (now (plan .entry))) (length (now (rows .entry)))) (now (status .entry)))
+        × (now (number .exit) ≡ resultNumber (planCalled n m leading present (now (cluster .entry))
+        (length (now (plan .entry))) (length (now (rows .entry)))) (now (number .entry))) ⌝ }
 {
     hand_out(
-        plan::plan_cluster(cluster, n, m, leader, present, plan, rows),
+        plan::plan_cluster(cluster, n, m, leading, present, plan, rows),
         status,
         number,
     )
@@ -66,21 +67,21 @@ pub extern "C" fn rope_step(
     cluster: &mut [u8],
     n: usize,
     m: usize,
-    leader: usize,
+    leading: usize,
     present: u32,
     status: &mut u8,
     replica: &mut usize,
     slot: &mut usize,
     kind: &mut u8,
 ) -> u8
-    ensures { λ r. ⌜ (r ≡ resultRefusal (callResult (numbers n m leader present) step (now (cluster .entry))))
-        × (now (cluster .exit) ≡ callBytes (numbers n m leader present) step (now (cluster .entry)))
-        × (now (status .exit) ≡ resultStatus (callResult (numbers n m leader present) step (now (cluster .entry))) (now (status .entry)))
-        × (now (replica .exit) ≡ resultReplica (callResult (numbers n m leader present) step (now (cluster .entry))) (now (replica .entry)))
-        × (now (slot .exit) ≡ resultSlot (callResult (numbers n m leader present) step (now (cluster .entry))) (now (slot .entry)))
-        × (now (kind .exit) ≡ resultKind (callResult (numbers n m leader present) step (now (cluster .entry))) (now (kind .entry))) ⌝ }
+    ensures { λ r. ⌜ (r ≡ resultRefusal (stepCalled n m leading present (now (cluster .entry))))
+        × (now (cluster .exit) ≡ callBytes (numbers n m leading present) step (now (cluster .entry)))
+        × (now (status .exit) ≡ resultStatus (stepCalled n m leading present (now (cluster .entry))) (now (status .entry)))
+        × (now (replica .exit) ≡ resultReplica (stepCalled n m leading present (now (cluster .entry))) (now (replica .entry)))
+        × (now (slot .exit) ≡ resultSlot (stepCalled n m leading present (now (cluster .entry))) (now (slot .entry)))
+        × (now (kind .exit) ≡ resultKind (stepCalled n m leading present (now (cluster .entry))) (now (kind .entry))) ⌝ }
 {
-    match step::step_cluster(cluster, n, m, leader, present) {
+    match step::step_cluster(cluster, n, m, leading, present) {
         recovery::StepAnswer::Stored(on, at, what) => {
             *status = 2;
             *replica = on;
@@ -108,20 +109,20 @@ pub extern "C" fn rope_run(
     cluster: &mut [u8],
     n: usize,
     m: usize,
-    leader: usize,
+    leading: usize,
     present: u32,
     budget: u64,
     status: &mut u8,
     stores: &mut u64,
     slot: &mut usize,
 ) -> u8
-    ensures { λ r. ⌜ (r ≡ resultRefusal (callResult (numbers n m leader present) (run budget) (now (cluster .entry))))
-        × (now (cluster .exit) ≡ callBytes (numbers n m leader present) (run budget) (now (cluster .entry)))
-        × (now (status .exit) ≡ resultStatus (callResult (numbers n m leader present) (run budget) (now (cluster .entry))) (now (status .entry)))
-        × (now (stores .exit) ≡ resultStores (callResult (numbers n m leader present) (run budget) (now (cluster .entry))) (now (stores .entry)))
-        × (now (slot .exit) ≡ resultSlot (callResult (numbers n m leader present) (run budget) (now (cluster .entry))) (now (slot .entry))) ⌝ }
+    ensures { λ r. ⌜ (r ≡ resultRefusal (runCalled n m leading present (now (cluster .entry)) budget))
+        × (now (cluster .exit) ≡ callBytes (numbers n m leading present) (run budget) (now (cluster .entry)))
+        × (now (status .exit) ≡ resultStatus (runCalled n m leading present (now (cluster .entry)) budget) (now (status .entry)))
+        × (now (stores .exit) ≡ resultStores (runCalled n m leading present (now (cluster .entry)) budget) (now (stores .entry)))
+        × (now (slot .exit) ≡ resultSlot (runCalled n m leading present (now (cluster .entry)) budget) (now (slot .entry))) ⌝ }
 {
-    match run::run_cluster(cluster, n, m, leader, present, budget) {
+    match run::run_cluster(cluster, n, m, leading, present, budget) {
         recovery::RunAnswer::Recovered(made) => {
             *status = 0;
             *stores = made;

@@ -13,7 +13,8 @@ ghost use Rattle.ropelog.specs.Images.{flag, payloadFound, found};
 // Makes a fresh image in a buffer of its size.
 #[no_mangle]
 pub extern "C" fn rope_format(image: &mut [u8], replica: usize, n: usize, m: usize) -> u8
-    ensures { λ r. ⌜ (r ≡ callRefusal replica n m (length (now (image .entry)))) × (now (image .exit) ≡ formatted replica n m (now (image .entry))) ⌝ }
+    ensures { λ r. ⌜ (r ≡ callRefusal replica n m (length (now (image .entry))))
+        × (now (image .exit) ≡ formatted replica n m (now (image .entry))) ⌝ }
 {
     match append::format_image(image, replica, n, m) {
         image::FormatAnswer::Formatted => 0,

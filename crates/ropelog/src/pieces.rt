@@ -3,9 +3,16 @@ ghost use mathlib.Core.Path.{_≡_};
 ghost use lib.ListN.{length};
 ghost use Rattle.checksum.specs.Checksum.{checksumOf};
 ghost use Rattle.column.specs.Column.{column};
-ghost use Rattle.record.specs.Layout.{headerBytes, recordBytes, blankRecord, entryBytes, freshEntry};
+ghost use Rattle.record.specs.Layout.{headerSize, recordSize, entrySize, headerBytes, recordBytes, blankRecord, entryBytes, freshEntry};
 ghost use Rattle.image.specs.Refusal.{unlessRefused};
 ghost use Rattle.ropelog.specs.Pieces.{sizeRefusal, entryRefusal, headerCode, columnCode, columnOut, recordCode, recordOut, entryCode, entryEpochOut, entrySizeOut};
+use locate::ENTRY_SIZE;
+use locate::HEADER_SIZE;
+use locate::MAX_PAYLOAD;
+use locate::RECORD_SIZE;
+
+// A wider column can hold more than 64 bits.
+const WIDEST_COLUMN: usize = 19;
 
 // The checksum of some bytes.
 #[no_mangle]
@@ -26,9 +33,10 @@ pub extern "C" fn rope_write_number(s: &mut [u8], x: u64)
 // Reads a column: 0 and the number, 1 blank, 2 malformed, 3 over 19 bytes.
 #[no_mangle]
 pub extern "C" fn rope_read_column(s: &[u8], value: &mut u64) -> u8
-    ensures { λ r. ⌜ (r ≡ columnCode (now (s .entry))) × (now (value .exit) ≡ columnOut (now (s .entry)) (now (value .entry))) ⌝ }
+    ensures { λ r. ⌜ (r ≡ columnCode (now (s .entry)))
+        × (now (value .exit) ≡ columnOut (now (s .entry)) (now (value .entry))) ⌝ }
 {
-    if 19 < s.len() {
+    if WIDEST_COLUMN < s.len() {
         return 3;
     }
     match spell::read_column(s) {
@@ -44,9 +52,10 @@ pub extern "C" fn rope_read_column(s: &[u8], value: &mut u64) -> u8
 // Writes a header: 0, or 3 and nothing written.
 #[no_mangle]
 pub extern "C" fn rope_write_header(s: &mut [u8], replica: usize, n: usize, m: usize) -> u8
-    ensures { λ r. ⌜ (r ≡ sizeRefusal 28 (now (s .entry))) × (now (s .exit) ≡ unlessRefused r (headerBytes replica n m) (now (s .entry))) ⌝ }
+    ensures { λ r. ⌜ (r ≡ sizeRefusal headerSize (now (s .entry)))
+        × (now (s .exit) ≡ unlessRefused r (headerBytes replica n m) (now (s .entry))) ⌝ }
 {
-    if s.len() != 28 {
+    if s.len() != HEADER_SIZE {
         return 3;
     }
     write::write_header(s, replica, n, m);
@@ -56,9 +65,10 @@ pub extern "C" fn rope_write_header(s: &mut [u8], replica: usize, n: usize, m: u
 // Writes the record of an epoch and an index: 0, or 3 and nothing written.
 #[no_mangle]
 pub extern "C" fn rope_write_record(s: &mut [u8], epoch: u32, index: u32) -> u8
-    ensures { λ r. ⌜ (r ≡ sizeRefusal 34 (now (s .entry))) × (now (s .exit) ≡ unlessRefused r (recordBytes epoch index) (now (s .entry))) ⌝ }
+    ensures { λ r. ⌜ (r ≡ sizeRefusal recordSize (now (s .entry)))
+        × (now (s .exit) ≡ unlessRefused r (recordBytes epoch index) (now (s .entry))) ⌝ }
 {
-    if s.len() != 34 {
+    if s.len() != RECORD_SIZE {
         return 3;
     }
     write::write_record(s, epoch, index);
@@ -68,9 +78,10 @@ pub extern "C" fn rope_write_record(s: &mut [u8], epoch: u32, index: u32) -> u8
 // Writes a blank record: 0, or 3 and nothing written.
 #[no_mangle]
 pub extern "C" fn rope_write_blank_record(s: &mut [u8]) -> u8
-    ensures { λ r. ⌜ (r ≡ sizeRefusal 34 (now (s .entry))) × (now (s .exit) ≡ unlessRefused r blankRecord (now (s .entry))) ⌝ }
+    ensures { λ r. ⌜ (r ≡ sizeRefusal recordSize (now (s .entry)))
+        × (now (s .exit) ≡ unlessRefused r blankRecord (now (s .entry))) ⌝ }
 {
-    if s.len() != 34 {
+    if s.len() != RECORD_SIZE {
         return 3;
     }
     write::write_blank_record(s);
@@ -80,12 +91,13 @@ pub extern "C" fn rope_write_blank_record(s: &mut [u8]) -> u8
 // Writes the entry of an epoch, an index and a payload: 0, or 3 or 9 and nothing written.
 #[no_mangle]
 pub extern "C" fn rope_write_entry(s: &mut [u8], epoch: u32, index: u32, payload: &[u8]) -> u8
-    ensures { λ r. ⌜ (r ≡ entryRefusal (now (s .entry)) (now (payload .entry))) × (now (s .exit) ≡ unlessRefused r (entryBytes epoch index (now (payload .entry))) (now (s .entry))) ⌝ }
+    ensures { λ r. ⌜ (r ≡ entryRefusal (now (s .entry)) (now (payload .entry)))
+        × (now (s .exit) ≡ unlessRefused r (entryBytes epoch index (now (payload .entry))) (now (s .entry))) ⌝ }
 {
-    if s.len() != 240 {
+    if s.len() != ENTRY_SIZE {
         return 3;
     }
-    if 200 < payload.len() {
+    if MAX_PAYLOAD < payload.len() {
         return 9;
     }
     write::write_entry(s, epoch, index, payload);
@@ -95,9 +107,10 @@ pub extern "C" fn rope_write_entry(s: &mut [u8], epoch: u32, index: u32, payload
 // Writes a fresh entry: 0, or 3 and nothing written.
 #[no_mangle]
 pub extern "C" fn rope_write_fresh_entry(s: &mut [u8]) -> u8
-    ensures { λ r. ⌜ (r ≡ sizeRefusal 240 (now (s .entry))) × (now (s .exit) ≡ unlessRefused r freshEntry (now (s .entry))) ⌝ }
+    ensures { λ r. ⌜ (r ≡ sizeRefusal entrySize (now (s .entry)))
+        × (now (s .exit) ≡ unlessRefused r freshEntry (now (s .entry))) ⌝ }
 {
-    if s.len() != 240 {
+    if s.len() != ENTRY_SIZE {
         return 3;
     }
     write::write_fresh_entry(s);
@@ -118,9 +131,10 @@ pub extern "C" fn rope_is_header(s: &[u8], replica: usize, n: usize, m: usize) -
 // Judges the record of an index: 0 good and its epoch, 1 blank, 2 bad, 3 not a record's length.
 #[no_mangle]
 pub extern "C" fn rope_judge_record(s: &[u8], index: u32, epoch: &mut u32) -> u8
-    ensures { λ r. ⌜ (r ≡ recordCode index (now (s .entry))) × (now (epoch .exit) ≡ recordOut index (now (s .entry)) (now (epoch .entry))) ⌝ }
+    ensures { λ r. ⌜ (r ≡ recordCode index (now (s .entry)))
+        × (now (epoch .exit) ≡ recordOut index (now (s .entry)) (now (epoch .entry))) ⌝ }
 {
-    if s.len() != 34 {
+    if s.len() != RECORD_SIZE {
         return 3;
     }
     match judge::judge_record(s, index) {
@@ -136,9 +150,11 @@ pub extern "C" fn rope_judge_record(s: &[u8], index: u32, epoch: &mut u32) -> u8
 // Judges the entry of an index: 0 intact with its epoch and its payload's length, 1 broken, 3 not an entry's length.
 #[no_mangle]
 pub extern "C" fn rope_judge_entry(s: &[u8], index: u32, epoch: &mut u32, size: &mut usize) -> u8
-    ensures { λ r. ⌜ (r ≡ entryCode index (now (s .entry))) × (now (epoch .exit) ≡ entryEpochOut index (now (s .entry)) (now (epoch .entry))) × (now (size .exit) ≡ entrySizeOut index (now (s .entry)) (now (size .entry))) ⌝ }
+    ensures { λ r. ⌜ (r ≡ entryCode index (now (s .entry)))
+        × (now (epoch .exit) ≡ entryEpochOut index (now (s .entry)) (now (epoch .entry)))
+        × (now (size .exit) ≡ entrySizeOut index (now (s .entry)) (now (size .entry))) ⌝ }
 {
-    if s.len() != 240 {
+    if s.len() != ENTRY_SIZE {
         return 3;
     }
     match judge::judge_entry(s, index) {
