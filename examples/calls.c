@@ -1,5 +1,5 @@
-/* Every function of include/ropelog.h, called once or more and its answer checked; also that a refused call changes nothing.
- * It prints how many checks held, or the line of the first that did not. */
+/* Every function of include/ropelog.h, called once or more and its answer checked; also the version, the sizes, and that a refused call
+ * changes nothing. It prints how many checks held, or the line of the first that did not. */
 #include <stdio.h>
 #include <stdlib.h>
 #include <string.h>
@@ -32,6 +32,15 @@ static int all_are(const uint8_t *bytes, size_t size, uint8_t byte) {
         }
     }
     return 1;
+}
+
+static void check_version_and_sizes(void) {
+    char version[16];
+    sprintf(version, "%d.%d.%d", ROPE_VERSION_MAJOR, ROPE_VERSION_MINOR, ROPE_VERSION_PATCH);
+    CHECK(strcmp(version, ROPE_VERSION) == 0);
+    CHECK(ROPE_IMAGE_SIZE(1) == 302 && ROPE_IMAGE_SIZE(ROPE_MAX_SLOTS) == 17564);
+    CHECK(ROPE_CLUSTER_SIZE(3, 1) == 906 && ROPE_IMAGE_AT(1, 3) == 604);
+    CHECK(ROPE_RECORD_AT(2) == 62 && ROPE_ENTRY_AT(2, 1) == 96 && ROPE_ENTRY_AT(2, 2) + ROPE_ENTRY_SIZE == ROPE_IMAGE_SIZE(2));
 }
 
 static void check_columns(void) {
@@ -164,6 +173,7 @@ static void check_recovery(void) {
 }
 
 int main(void) {
+    check_version_and_sizes();
     check_columns();
     check_headers_and_records();
     check_entries();

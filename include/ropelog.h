@@ -21,6 +21,10 @@
 #ifndef ROPELOG_H
 #define ROPELOG_H
 
+#if !defined(__linux__) || !(defined(__x86_64__) || defined(_M_X64))
+#error "libropelog.a is for x86-64 Linux"
+#endif
+
 #include <stddef.h>
 #include <stdint.h>
 
@@ -28,8 +32,23 @@
 extern "C" {
 #endif
 
-/* The archive is for x86-64 Linux, where size_t has 64 bits; elsewhere this line does not compile. */
+/* A size crosses as 64 bits. Some x86-64 programs have narrower ones (gcc -mx32); there this line does not compile. */
 typedef char rope_needs_64_bit_sizes[sizeof(size_t) == 8 ? 1 : -1];
+
+/* Before a function whose result says whether it did anything: a compiler that can warns of a call that drops the result. */
+#if defined(__GNUC__) || defined(__clang__)
+#define ROPE_MUST_USE __attribute__((__warn_unused_result__))
+#else
+#define ROPE_MUST_USE
+#endif
+
+/* ---- Version ------------------------------------------------------------------------------------------------------------------ */
+
+/* CHANGELOG.md says what a version promises. */
+#define ROPE_VERSION_MAJOR 1
+#define ROPE_VERSION_MINOR 0
+#define ROPE_VERSION_PATCH 0
+#define ROPE_VERSION "1.0.0"
 
 /* ---- Sizes, in bytes ---------------------------------------------------------------------------------------------------------- */
 
@@ -41,13 +60,14 @@ typedef char rope_needs_64_bit_sizes[sizeof(size_t) == 8 ? 1 : -1];
 #define ROPE_MAX_REPLICAS 7
 
 /* An image of m slots has 28 + 274 * m bytes, and a cluster n times as many. */
-#define ROPE_IMAGE_SIZE(m) ((size_t)28 + (size_t)274 * (size_t)(m))
+#define ROPE_IMAGE_SIZE(m) ((size_t)ROPE_HEADER_SIZE + (size_t)(ROPE_RECORD_SIZE + ROPE_ENTRY_SIZE) * (size_t)(m))
 #define ROPE_CLUSTER_SIZE(n, m) ((size_t)(n) * ROPE_IMAGE_SIZE(m))
 
 /* Where the image of a replica begins in its cluster, and where the record and the entry of a slot begin in their image. */
 #define ROPE_IMAGE_AT(m, replica) (((size_t)(replica) - 1) * ROPE_IMAGE_SIZE(m))
-#define ROPE_RECORD_AT(slot) ((size_t)28 + (size_t)34 * ((size_t)(slot) - 1))
-#define ROPE_ENTRY_AT(m, slot) ((size_t)28 + (size_t)34 * (size_t)(m) + (size_t)240 * ((size_t)(slot) - 1))
+#define ROPE_RECORD_AT(slot) ((size_t)ROPE_HEADER_SIZE + (size_t)ROPE_RECORD_SIZE * ((size_t)(slot) - 1))
+#define ROPE_ENTRY_AT(m, slot) \
+    ((size_t)ROPE_HEADER_SIZE + (size_t)ROPE_RECORD_SIZE * (size_t)(m) + (size_t)ROPE_ENTRY_SIZE * ((size_t)(slot) - 1))
 
 /* In a present set the bit of replica c is worth 2 to the power c - 1. The second macro is the set of all n replicas. */
 #define ROPE_BIT(replica) ((uint32_t)1 << ((replica) - 1))
@@ -134,25 +154,30 @@ typedef char rope_row_last_epoch_at_8[offsetof(rope_row, last_epoch) == 8 ? 1 : 
 /* ---- One image ---------------------------------------------------------------------------------------------------------------- */
 
 /* Writes a fresh image over the whole buffer: a header, blank records, entries of spaces. Refusals 1 to 3. */
+ROPE_MUST_USE
 uint8_t rope_format(uint8_t *image, size_t image_len, size_t replica, size_t n, size_t m);
 
 /* Writes the entry and then the record of the first unused slot, and hands out that slot. Epochs are 1 to 4,294,967,295 and never
  * fall. After a cut, and for every new leader, take an epoch that was never used before. Refusals 1 to 10. */
+ROPE_MUST_USE
 uint8_t rope_append(uint8_t *image, size_t image_len, size_t replica, size_t n, size_t m, uint32_t epoch, const uint8_t *payload,
                     size_t payload_len, size_t *slot);
 
 /* Fills the epoch (0 if the slot is unused) and the verdict (enum rope_verdict) of each slot, and hands out the log's length. Both
  * buffers have m elements, else 13, which is tried after all else. A slot's epoch is its record's if that is good, else its entry's.
  * Refusals 1 to 7 and 13. */
+ROPE_MUST_USE
 uint8_t rope_read(const uint8_t *image, size_t image_len, size_t replica, size_t n, size_t m, uint32_t *epochs, size_t epochs_len,
                   uint8_t *verdicts, size_t verdicts_len, size_t *length);
 
 /* Hands out 1 if the slot has a payload (verdict 1 or 2), else 0; a slot that is not 1 to m has none, and an empty payload is one.
  * Refusals 1 to 7. */
+ROPE_MUST_USE
 uint8_t rope_has_payload(const uint8_t *image, size_t image_len, size_t replica, size_t n, size_t m, size_t slot, uint8_t *has);
 
 /* Returns 1 if the image is not refused and the slot has a payload, else 0: this is no refusal's number. With 1 it hands out where the
  * payload begins in the image, and how many bytes it has; with 0 both numbers stay as they were. */
+ROPE_MUST_USE
 uint8_t rope_payload(const uint8_t *image, size_t image_len, size_t replica, size_t n, size_t m, size_t slot, size_t *at,
                      size_t *size);
 
@@ -162,6 +187,7 @@ uint8_t rope_payload(const uint8_t *image, size_t image_len, size_t replica, siz
  * each slot, and n rows, one for each replica; hands out a status (enum rope_plan_status), and as number the final length if ready, or
  * the lowest waiting slot. A plan of other than m bytes or a table of other than n rows is 13, tried after all else.
  * Refusals 1 to 3 and 11 to 13; for 2 only n counts. */
+ROPE_MUST_USE
 uint8_t rope_plan(const uint8_t *cluster, size_t cluster_len, size_t n, size_t m, size_t leader, uint32_t present, uint8_t *plan,
                   size_t plan_len, rope_row *rows, size_t rows_len, uint8_t *status, size_t *number);
 
@@ -169,6 +195,7 @@ uint8_t rope_plan(const uint8_t *cluster, size_t cluster_len, size_t n, size_t m
  * ROPE_WAITING with the lowest waiting slot; or ROPE_OUTSTANDING with the replica, the slot and the kind (enum rope_store) of the
  * store it made. A number that goes with another status stays as it was. The store must be on the card of that replica before the
  * next step. Refusals 1 to 3, 11 and 12; for 2 only n counts. */
+ROPE_MUST_USE
 uint8_t rope_step(uint8_t *cluster, size_t cluster_len, size_t n, size_t m, size_t leader, uint32_t present, uint8_t *status,
                   size_t *replica, size_t *slot, uint8_t *kind);
 
@@ -176,6 +203,7 @@ uint8_t rope_step(uint8_t *cluster, size_t cluster_len, size_t n, size_t m, size
  * number of stores made, or ROPE_WAITING with the lowest waiting slot. A number that goes with another status stays as it was. The
  * stores of a run follow each other with nothing between them: on a card that takes them in another order, make steps instead.
  * Refusals as for rope_step. */
+ROPE_MUST_USE
 uint8_t rope_run(uint8_t *cluster, size_t cluster_len, size_t n, size_t m, size_t leader, uint32_t present, uint64_t budget,
                  uint8_t *status, uint64_t *stores, size_t *slot);
 
@@ -197,15 +225,21 @@ enum rope_column {
 };
 
 /* Reads a column strictly; one of no bytes holds the number 0. Returns enum rope_column. */
+ROPE_MUST_USE
 uint8_t rope_read_column(const uint8_t *column, size_t column_len, uint64_t *value);
 
 /* Write a header, a record, a blank record, an entry, an entry of spaces: each over a buffer of exactly that size, else 3. The entry's
  * payload has at most 200 bytes, else 9. The numbers are written as they are, whatever they are. */
+ROPE_MUST_USE
 uint8_t rope_write_header(uint8_t *header, size_t header_len, size_t replica, size_t n, size_t m);
+ROPE_MUST_USE
 uint8_t rope_write_record(uint8_t *record, size_t record_len, uint32_t epoch, uint32_t index);
+ROPE_MUST_USE
 uint8_t rope_write_blank_record(uint8_t *record, size_t record_len);
+ROPE_MUST_USE
 uint8_t rope_write_entry(uint8_t *entry, size_t entry_len, uint32_t epoch, uint32_t index, const uint8_t *payload,
                          size_t payload_len);
+ROPE_MUST_USE
 uint8_t rope_write_fresh_entry(uint8_t *entry, size_t entry_len);
 
 /* Returns 1 if the bytes are the header that is written for this replica, n and m, else 0. */
@@ -220,6 +254,7 @@ enum rope_record {
 };
 
 /* Judges the record of an index. Returns enum rope_record. */
+ROPE_MUST_USE
 uint8_t rope_judge_record(const uint8_t *record, size_t record_len, uint32_t index, uint32_t *epoch);
 
 /* What rope_judge_entry returns. */
@@ -230,6 +265,7 @@ enum rope_entry {
 };
 
 /* Judges the entry of an index. The payload begins at byte 26 of an intact entry. Returns enum rope_entry. */
+ROPE_MUST_USE
 uint8_t rope_judge_entry(const uint8_t *entry, size_t entry_len, uint32_t index, uint32_t *epoch, size_t *size);
 
 #ifdef __cplusplus
