@@ -9,6 +9,7 @@ use crate::{MAX_REPLICAS, MAX_SLOTS};
 
 /// What is to be done about a slot of the leader.
 #[derive(Clone, Copy, Debug, PartialEq, Eq, Hash)]
+#[non_exhaustive]
 pub enum PlanAction {
     /// 0: nothing stands there.
     Unused,
@@ -217,11 +218,15 @@ pub enum RunAnswer {
     },
 }
 
-/// Plans what is to be done about the leader's log, and writes nothing to the cluster.
+/// Plans what is to be done about the leader's log, and writes nothing to the cluster. A present
+/// replica other than the leader whose image is refused is treated as away.
 ///
-/// Refused are a buffer that is not [`Geometry::cluster_len`] bytes long, a present set or a leader
-/// of another geometry, and a leader that is not present or whose image is refused. Another present
-/// replica whose image is refused is treated as away.
+/// # Errors
+///
+/// - [`Refusal::BufferLength`]: the cluster is not [`Geometry::cluster_len`] bytes long.
+/// - [`Refusal::Present`]: the present set has a replica that this geometry does not have.
+/// - [`Refusal::Leader`]: the leader is not one of this geometry's, is not present, or its own image
+///   is refused; [`read`](crate::read) says why.
 pub fn plan(
     cluster: &[u8],
     geometry: Geometry,
@@ -278,7 +283,9 @@ fn row_of(row: RawRow) -> ReplicaRow {
 
 /// Works out the plan afresh and makes the first store still outstanding.
 ///
-/// It is refused as [`plan`] is.
+/// # Errors
+///
+/// [`Refusal::BufferLength`], [`Refusal::Present`] and [`Refusal::Leader`], each as for [`plan`].
 pub fn step(
     cluster: &mut [u8],
     geometry: Geometry,
@@ -318,7 +325,11 @@ pub fn step(
 /// Makes steps while the budget of stores lasts. [`Geometry::enough_stores`] always lasts.
 ///
 /// The stores follow each other with nothing between them. Where each store has to be brought to a
-/// card before the next is made, call [`step`] instead. It is refused as [`plan`] is.
+/// card before the next is made, call [`step`] instead.
+///
+/// # Errors
+///
+/// [`Refusal::BufferLength`], [`Refusal::Present`] and [`Refusal::Leader`], each as for [`plan`].
 pub fn run(
     cluster: &mut [u8],
     geometry: Geometry,

@@ -16,7 +16,12 @@ pub struct Geometry {
 }
 
 impl Geometry {
-    /// n replicas with m slots each. Refused are m other than 1 to 64, then n other than 3, 5 or 7.
+    /// n replicas with m slots each.
+    ///
+    /// # Errors
+    ///
+    /// - [`Refusal::SlotCount`]: m is not 1 to 64.
+    /// - [`Refusal::ReplicaCount`]: n is not 3, 5 or 7.
     pub fn new(n: usize, m: usize) -> Result<Geometry, Refusal> {
         judge(1, n, m)?;
         Ok(Geometry { n, m })
@@ -42,7 +47,11 @@ impl Geometry {
         self.n * self.image_len()
     }
 
-    /// The replica with this number, counted from 1, or [`Refusal::ReplicaCount`].
+    /// The replica with this number, counted from 1.
+    ///
+    /// # Errors
+    ///
+    /// [`Refusal::ReplicaCount`]: the number is not 1 to n.
     pub fn replica(self, number: usize) -> Result<Replica, Refusal> {
         judge(number, self.n, self.m)?;
         Ok(Replica(number))
@@ -186,7 +195,11 @@ impl Epoch {
     /// The first epoch, 1.
     pub const FIRST: Epoch = Epoch(NonZeroU32::MIN);
 
-    /// The epoch with this number; 0 is [`Refusal::AppendEpoch`].
+    /// The epoch with this number.
+    ///
+    /// # Errors
+    ///
+    /// [`Refusal::AppendEpoch`]: the number is 0.
     pub fn new(number: u32) -> Result<Epoch, Refusal> {
         NonZeroU32::new(number)
             .map(Epoch)

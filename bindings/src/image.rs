@@ -9,6 +9,7 @@ use crate::MAX_SLOTS;
 
 /// What a reader says of a slot.
 #[derive(Clone, Copy, Debug, PartialEq, Eq, Hash)]
+#[non_exhaustive]
 pub enum Verdict {
     /// 0: the record is blank.
     Unused,
@@ -102,7 +103,10 @@ impl Log {
 
 /// Writes a fresh image over the whole buffer: a header, blank records, entries of spaces.
 ///
-/// Refused is a buffer of the wrong length, and a replica of another geometry.
+/// # Errors
+///
+/// - [`Refusal::ReplicaCount`]: the replica is not one of this geometry's.
+/// - [`Refusal::BufferLength`]: the image is not [`Geometry::image_len`] bytes long.
 pub fn format(image: &mut [u8], geometry: Geometry, replica: Replica) -> Result<(), Refusal> {
     let (n, m) = (geometry.replica_count(), geometry.slot_count());
     // SAFETY: the slice is lent for the call.
@@ -112,8 +116,13 @@ pub fn format(image: &mut [u8], geometry: Geometry, replica: Replica) -> Result<
 
 /// Writes the entry and then the record of the first unused slot, and answers that slot, from 1.
 ///
-/// Refused are an image that is refused for reading, an epoch below the last used slot's, a payload
-/// of over 200 bytes, and a full log.
+/// # Errors
+///
+/// Every refusal of [`read`], and then:
+///
+/// - [`Refusal::AppendEpoch`]: the epoch is below the last used slot's.
+/// - [`Refusal::AppendPayload`]: the payload has over 200 bytes.
+/// - [`Refusal::AppendFull`]: every slot is used.
 pub fn append(
     image: &mut [u8],
     geometry: Geometry,
@@ -142,6 +151,15 @@ pub fn append(
 }
 
 /// Reads an image: the epoch and the verdict of each slot.
+///
+/// # Errors
+///
+/// - [`Refusal::ReplicaCount`]: the replica is not one of this geometry's.
+/// - [`Refusal::BufferLength`]: the image is not [`Geometry::image_len`] bytes long.
+/// - [`Refusal::Header`]: the header is not the one that is written for this replica and geometry.
+/// - [`Refusal::UsedAfterBlank`]: a used slot stands after a blank record.
+/// - [`Refusal::BothLost`]: a bad record stands beside an entry that is not intact.
+/// - [`Refusal::EpochFalls`]: a used slot's epoch is below an earlier slot's.
 pub fn read(image: &[u8], geometry: Geometry, replica: Replica) -> Result<Log, Refusal> {
     let (n, m) = (geometry.replica_count(), geometry.slot_count());
     let mut epochs = [0; MAX_SLOTS];
@@ -176,6 +194,10 @@ pub fn read(image: &[u8], geometry: Geometry, replica: Replica) -> Result<Log, R
 
 /// Whether a slot, counted from 1, has a payload. An empty payload is one; a slot that the image does
 /// not have has none.
+///
+/// # Errors
+///
+/// Every refusal of [`read`].
 pub fn has_payload(
     image: &[u8],
     geometry: Geometry,

@@ -28,8 +28,16 @@
 //! assert_eq!(payload(image, geometry, leader, 1), Some(&b"metre 1204, wire broken"[..]));
 //! # Ok::<(), ropelog::Refusal>(())
 //! ```
+//!
+//! # Linking
+//!
+//! The functions stand in `libropelog.a`, for x86-64 Linux, which `rt staticlib ropelog` writes to
+//! `target/staticlib` of the repository. If it lies elsewhere, the environment variable
+//! `ROPELOG_ARCHIVE_DIR` names its folder when this crate is built: an absolute path, or one that
+//! begins at the folder of this crate.
 
 #![warn(missing_docs)]
+#![warn(clippy::missing_errors_doc, clippy::undocumented_unsafe_blocks)]
 
 mod cluster;
 mod exported;

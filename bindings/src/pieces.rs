@@ -66,7 +66,11 @@ pub fn write_number(column: &mut [u8], number: u64) {
     unsafe { exported::rope_write_number(column.as_mut_ptr(), column.len(), number) }
 }
 
-/// Reads a column strictly. One of over 19 bytes is [`Refusal::BufferLength`].
+/// Reads a column strictly.
+///
+/// # Errors
+///
+/// [`Refusal::BufferLength`]: the column has over 19 bytes.
 pub fn read_column(column: &[u8]) -> Result<Column, Refusal> {
     let mut value = 0;
     // SAFETY: the slice and the number are lent for the call, and do not overlap.
@@ -102,8 +106,11 @@ pub fn write_blank_record(record: &mut [u8; RECORD_LEN]) {
     sized("rope_write_blank_record", number);
 }
 
-/// Writes the entry of an epoch, an index and a payload. A payload of over 200 bytes is
-/// [`Refusal::AppendPayload`], and then nothing is written.
+/// Writes the entry of an epoch, an index and a payload.
+///
+/// # Errors
+///
+/// [`Refusal::AppendPayload`]: the payload has over 200 bytes. Nothing is written then.
 pub fn write_entry(
     entry: &mut [u8; ENTRY_LEN],
     epoch: u32,

@@ -8,6 +8,7 @@ use crate::exported::no_such;
 /// Why a call is refused, in the order in which the lowest number wins. A refused call has changed
 /// no byte of what it was lent.
 #[derive(Clone, Copy, Debug, PartialEq, Eq, PartialOrd, Ord, Hash)]
+#[non_exhaustive]
 pub enum Refusal {
     /// 1: m, the number of slots, is not 1 to 64.
     SlotCount = 1,
