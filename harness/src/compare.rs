@@ -90,8 +90,8 @@ mod tests {
     fn a_byte_outside_is_told() {
         let wrong = Side {
             format: |image, replica, n, m| {
-                let end = unsafe { image.as_mut_ptr().add(image.len()) };
-                unsafe { *end ^= 1 };
+                // SAFETY: `Guarded` keeps 32 bytes behind the image in the same buffer.
+                unsafe { *image.as_mut_ptr().add(image.len()) ^= 1 };
                 (PROVED.format)(image, replica, n, m)
             },
             ..PROVED

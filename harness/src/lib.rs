@@ -3,6 +3,8 @@
 //! It is written for comparison, so it prefers loops one can check by eye over speed.
 //! Beside it stand the proved functions that it is compared with.
 
+#![warn(clippy::undocumented_unsafe_blocks)]
+
 pub mod bench;
 pub mod call;
 pub mod code;

@@ -25,7 +25,33 @@ const USAGE: &str = "usage:
   harness property --cases N --seed S    check what recovery promises on generated clusters
   harness fuzz --seconds N --seed S      compare all calls by the model and the proved code
   harness table                          try all damaged sets of four entries on three replicas
-  harness bench                          time the proved functions beside the model's";
+  harness bench                          time the proved functions beside the model's
+  harness help                           print this (also -h, --help)
+
+Exit status: 0 done, 1 failed or found something wrong, 2 called wrongly.
+";
+
+/// Why a command does not succeed.
+enum Failure {
+    /// It was called wrongly.
+    Usage(String),
+    /// It could not be done, or it found something wrong.
+    Failed(String),
+}
+
+impl From<String> for Failure {
+    fn from(message: String) -> Failure {
+        Failure::Failed(message)
+    }
+}
+
+fn usage<T>(message: impl Into<String>) -> Result<T, Failure> {
+    Err(Failure::Usage(message.into()))
+}
+
+fn failed<T>(message: impl Into<String>) -> Result<T, Failure> {
+    Err(Failure::Failed(message.into()))
+}
 
 fn main() -> ExitCode {
     let arguments: Vec<String> = env::args_os()
@@ -34,17 +60,24 @@ fn main() -> ExitCode {
         .collect();
     match dispatch(&arguments) {
         Ok(()) => ExitCode::SUCCESS,
-        Err(message) => {
+        Err(Failure::Failed(message)) => {
             eprintln!("harness: {message}");
             ExitCode::FAILURE
+        }
+        Err(Failure::Usage(message)) => {
+            eprint!("harness: {message}\n{USAGE}");
+            ExitCode::from(2)
         }
     }
 }
 
-fn dispatch(arguments: &[String]) -> Result<(), String> {
+fn dispatch(arguments: &[String]) -> Result<(), Failure> {
     let Some((subcommand, rest)) = arguments.split_first() else {
-        return Err(format!("a subcommand is missing\n{USAGE}"));
+        return usage("a subcommand is missing");
     };
+    if subcommand == "help" || arguments.iter().any(|one| one == "-h" || one == "--help") {
+        return print_bytes(USAGE.as_bytes());
+    }
     match subcommand.as_str() {
         "report" => report(rest),
         "sample" => sample(rest),
@@ -53,37 +86,38 @@ fn dispatch(arguments: &[String]) -> Result<(), String> {
         "fuzz" => fuzz_calls(rest),
         "table" => table(rest),
         "bench" => time_functions(rest),
-        other => Err(format!("unknown subcommand '{other}'\n{USAGE}")),
+        other => usage(format!("unknown subcommand '{other}'")),
     }
 }
 
 /// Prints what the printing program prints.
-fn report(arguments: &[String]) -> Result<(), String> {
+fn report(arguments: &[String]) -> Result<(), Failure> {
     let [file] = arguments else {
-        return Err(format!("report takes one FILE\n{USAGE}"));
+        return usage("report takes one FILE");
     };
     if file.starts_with("--") {
-        return Err(format!("unknown flag '{file}'\n{USAGE}"));
+        return usage(format!("unknown flag '{file}'"));
     }
     let input = read_input(file).map_err(|error| format!("cannot read '{file}': {error}"))?;
     print_bytes(&model::report(&input))
 }
 
 /// Writes the input of the printed example.
-fn sample(arguments: &[String]) -> Result<(), String> {
+fn sample(arguments: &[String]) -> Result<(), Failure> {
     no_arguments("sample", arguments)?;
     print_bytes(&example_input())
 }
 
 /// Writes every sample and its plan.
-fn all_samples(arguments: &[String]) -> Result<(), String> {
+fn all_samples(arguments: &[String]) -> Result<(), Failure> {
     let [folder] = arguments else {
-        return Err(format!("samples takes one DIR\n{USAGE}"));
+        return usage("samples takes one DIR");
     };
     if folder.starts_with("--") {
-        return Err(format!("unknown flag '{folder}'\n{USAGE}"));
+        return usage(format!("unknown flag '{folder}'"));
     }
-    write_samples(Path::new(folder)).map_err(|error| format!("cannot write '{folder}': {error}"))
+    write_samples(Path::new(folder))
+        .or_else(|error| failed(format!("cannot write '{folder}': {error}")))
 }
 
 fn read_input(file: &str) -> io::Result<Vec<u8>> {
@@ -95,16 +129,16 @@ fn read_input(file: &str) -> io::Result<Vec<u8>> {
     Ok(input)
 }
 
-fn print_bytes(bytes: &[u8]) -> Result<(), String> {
+fn print_bytes(bytes: &[u8]) -> Result<(), Failure> {
     let mut output = io::stdout().lock();
     output
         .write_all(bytes)
         .and_then(|()| output.flush())
-        .map_err(|error| format!("cannot write the output: {error}"))
+        .or_else(|error| failed(format!("cannot write the output: {error}")))
 }
 
 /// Plays generated cases of every kind.
-fn check_property(arguments: &[String]) -> Result<(), String> {
+fn check_property(arguments: &[String]) -> Result<(), Failure> {
     let [cases, seed] = flag_values(arguments, ["--cases", "--seed"])?;
     let all = cases.saturating_mul(3);
     let shown = progress::show(move |done, _| format!("property: {done} of {all} cases"));
@@ -121,7 +155,7 @@ fn check_property(arguments: &[String]) -> Result<(), String> {
 }
 
 /// Makes generated calls of every kind by both for some time.
-fn fuzz_calls(arguments: &[String]) -> Result<(), String> {
+fn fuzz_calls(arguments: &[String]) -> Result<(), Failure> {
     let [seconds, seed] = flag_values(arguments, ["--seconds", "--seed"])?;
     // A side that panics is told once, as a difference.
     panic::set_hook(Box::new(|_| ()));
@@ -140,12 +174,12 @@ fn fuzz_calls(arguments: &[String]) -> Result<(), String> {
     print_bytes(fuzzed.to_string().as_bytes())?;
     match fuzzed.difference {
         None => Ok(()),
-        Some(_) => Err("the model and the proved code differ".into()),
+        Some(_) => failed("the model and the proved code differ"),
     }
 }
 
 /// Prints the times; they say something only of a release build.
-fn time_functions(arguments: &[String]) -> Result<(), String> {
+fn time_functions(arguments: &[String]) -> Result<(), Failure> {
     no_arguments("bench", arguments)?;
     let shown = progress::show(|done, _| format!("bench: {done} of {} calls", bench::TIMED));
     let table = bench::bench();
@@ -153,17 +187,15 @@ fn time_functions(arguments: &[String]) -> Result<(), String> {
     print_bytes(table.to_string().as_bytes())
 }
 
-fn no_arguments(subcommand: &str, arguments: &[String]) -> Result<(), String> {
+fn no_arguments(subcommand: &str, arguments: &[String]) -> Result<(), Failure> {
     match arguments.first() {
         None => Ok(()),
-        Some(flag) if flag.starts_with("--") => Err(format!("unknown flag '{flag}'\n{USAGE}")),
-        Some(extra) => Err(format!(
-            "{subcommand} takes no argument, not '{extra}'\n{USAGE}"
-        )),
+        Some(flag) if flag.starts_with("--") => usage(format!("unknown flag '{flag}'")),
+        Some(extra) => usage(format!("{subcommand} takes no argument, not '{extra}'")),
     }
 }
 
-fn table(arguments: &[String]) -> Result<(), String> {
+fn table(arguments: &[String]) -> Result<(), Failure> {
     no_arguments("table", arguments)?;
     let all = property::table::SETS;
     let shown = progress::show(move |done, _| format!("table: {done} of {all} sets"));
@@ -175,34 +207,40 @@ fn table(arguments: &[String]) -> Result<(), String> {
     );
     print_bytes(text.as_bytes())?;
     if table.harmed > 0 {
-        return Err("some combination loses or alters something".into());
+        return failed("some combination loses or alters something");
     }
     Ok(())
 }
 
 /// The numbers behind the named flags, each given exactly once in any order.
-fn flag_values<const N: usize>(arguments: &[String], names: [&str; N]) -> Result<[u64; N], String> {
+fn flag_values<const N: usize>(
+    arguments: &[String],
+    names: [&str; N],
+) -> Result<[u64; N], Failure> {
     let mut values = [None; N];
     let mut rest = arguments;
     while let Some((flag, behind)) = rest.split_first() {
         let Some(at) = names.iter().position(|name| name == flag) else {
-            return Err(format!("unknown flag '{flag}'\n{USAGE}"));
+            return usage(format!("unknown flag '{flag}'"));
         };
         let Some((text, behind)) = behind.split_first() else {
-            return Err(format!("{flag} needs a value\n{USAGE}"));
+            return usage(format!("{flag} needs a value"));
         };
         if values[at].is_some() {
-            return Err(format!("{flag} is given twice\n{USAGE}"));
+            return usage(format!("{flag} is given twice"));
         }
-        let value = text
-            .parse()
-            .map_err(|_| format!("{flag} needs a number, not '{text}'"))?;
+        let Ok(value) = text.parse() else {
+            return usage(format!("{flag} needs a number, not '{text}'"));
+        };
         values[at] = Some(value);
         rest = behind;
     }
     let mut found = [0; N];
     for at in 0..N {
-        found[at] = values[at].ok_or_else(|| format!("{} is missing\n{USAGE}", names[at]))?;
+        let Some(value) = values[at] else {
+            return usage(format!("{} is missing", names[at]));
+        };
+        found[at] = value;
     }
     Ok(found)
 }

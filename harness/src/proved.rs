@@ -51,15 +51,18 @@ pub enum Entry {
 }
 
 pub fn checksum(bytes: &[u8]) -> u32 {
+    // SAFETY: the slice is lent for the call.
     unsafe { exported::rope_checksum(bytes.as_ptr(), bytes.len()) }
 }
 
 /// Writes over the whole column.
 pub fn write_number(column: &mut [u8], number: u64) {
+    // SAFETY: the slice is lent for the call.
     unsafe { exported::rope_write_number(column.as_mut_ptr(), column.len(), number) }
 }
 
 pub fn read_column(column: &[u8], value: &mut u64) -> Column {
+    // SAFETY: the slice and the number are lent for the call, and do not overlap.
     match unsafe { exported::rope_read_column(column.as_ptr(), column.len(), value) } {
         0 => Column::Number,
         1 => Column::Blank,
@@ -71,6 +74,7 @@ pub fn read_column(column: &[u8], value: &mut u64) -> Column {
 
 pub fn write_header(header: &mut [u8], replica: usize, n: usize, m: usize) -> Written {
     let (pointer, len) = (header.as_mut_ptr(), header.len());
+    // SAFETY: the slice is lent for the call.
     written("rope_write_header", unsafe {
         exported::rope_write_header(pointer, len, replica, n, m)
     })
@@ -78,6 +82,7 @@ pub fn write_header(header: &mut [u8], replica: usize, n: usize, m: usize) -> Wr
 
 pub fn write_record(record: &mut [u8], epoch: u32, index: u32) -> Written {
     let (pointer, len) = (record.as_mut_ptr(), record.len());
+    // SAFETY: the slice is lent for the call.
     written("rope_write_record", unsafe {
         exported::rope_write_record(pointer, len, epoch, index)
     })
@@ -85,6 +90,7 @@ pub fn write_record(record: &mut [u8], epoch: u32, index: u32) -> Written {
 
 pub fn write_blank_record(record: &mut [u8]) -> Written {
     let (pointer, len) = (record.as_mut_ptr(), record.len());
+    // SAFETY: the slice is lent for the call.
     written("rope_write_blank_record", unsafe {
         exported::rope_write_blank_record(pointer, len)
     })
@@ -93,6 +99,7 @@ pub fn write_blank_record(record: &mut [u8]) -> Written {
 pub fn write_entry(entry: &mut [u8], epoch: u32, index: u32, payload: &[u8]) -> Written {
     let (pointer, len) = (entry.as_mut_ptr(), entry.len());
     let (payload, payload_len) = (payload.as_ptr(), payload.len());
+    // SAFETY: the slices are lent for the call, and do not overlap.
     let code =
         unsafe { exported::rope_write_entry(pointer, len, epoch, index, payload, payload_len) };
     match code {
@@ -103,6 +110,7 @@ pub fn write_entry(entry: &mut [u8], epoch: u32, index: u32, payload: &[u8]) -> 
 
 pub fn write_fresh_entry(entry: &mut [u8]) -> Written {
     let (pointer, len) = (entry.as_mut_ptr(), entry.len());
+    // SAFETY: the slice is lent for the call.
     written("rope_write_fresh_entry", unsafe {
         exported::rope_write_fresh_entry(pointer, len)
     })
@@ -110,6 +118,7 @@ pub fn write_fresh_entry(entry: &mut [u8]) -> Written {
 
 pub fn is_header(header: &[u8], replica: usize, n: usize, m: usize) -> bool {
     let (pointer, len) = (header.as_ptr(), header.len());
+    // SAFETY: the slice is lent for the call.
     match unsafe { exported::rope_is_header(pointer, len, replica, n, m) } {
         0 => false,
         1 => true,
@@ -119,6 +128,7 @@ pub fn is_header(header: &[u8], replica: usize, n: usize, m: usize) -> bool {
 
 pub fn judge_record(record: &[u8], index: u32, epoch: &mut u32) -> Record {
     let (pointer, len) = (record.as_ptr(), record.len());
+    // SAFETY: the slice and the number are lent for the call, and do not overlap.
     match unsafe { exported::rope_judge_record(pointer, len, index, epoch) } {
         0 => Record::Good,
         1 => Record::Blank,
@@ -130,6 +140,7 @@ pub fn judge_record(record: &[u8], index: u32, epoch: &mut u32) -> Record {
 
 pub fn judge_entry(entry: &[u8], index: u32, epoch: &mut u32, size: &mut usize) -> Entry {
     let (pointer, len) = (entry.as_ptr(), entry.len());
+    // SAFETY: the slice and the numbers are lent for the call, and none overlaps another.
     match unsafe { exported::rope_judge_entry(pointer, len, index, epoch, size) } {
         0 => Entry::Intact,
         1 => Entry::Broken,

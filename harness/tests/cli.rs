@@ -1,4 +1,5 @@
-//! The command line: what it prints, and that every mistake is told and fails.
+//! The command line: what it prints, that every mistake is told with the usage and ends with 2, and
+//! every failure with 1.
 
 use std::fs;
 use std::io::Write;
@@ -21,14 +22,22 @@ fn stdout(output: &Output) -> String {
     String::from_utf8(output.stdout.clone()).unwrap()
 }
 
-/// A mistake prints nothing, names itself on the error channel, and fails.
-fn assert_mistake(arguments: &[&str], word: &str) {
+/// Nothing is printed but a message on the error channel, which is answered without its name.
+fn message(arguments: &[&str], status: i32) -> String {
     let output = harness(arguments);
-    assert!(!output.status.success(), "{arguments:?}");
+    assert_eq!(output.status.code(), Some(status), "{arguments:?}");
     assert!(output.stdout.is_empty(), "{arguments:?}");
     let message = String::from_utf8(output.stderr).unwrap();
-    assert!(message.starts_with("harness: "), "{message}");
-    assert!(message.contains(word), "{arguments:?}: {message}");
+    let told = message.strip_prefix("harness: ");
+    told.unwrap_or_else(|| panic!("{message}")).into()
+}
+
+/// A mistake of the caller: it is told in the first line, and the usage follows.
+fn assert_mistake(arguments: &[&str], word: &str) {
+    let message = message(arguments, 2);
+    let (told, usage) = message.split_once('\n').unwrap();
+    assert!(told.contains(word), "{arguments:?}: {message}");
+    assert_eq!(usage, stdout(&harness(&["help"])), "{arguments:?}");
 }
 
 fn example_input() -> Vec<u8> {
@@ -145,7 +154,41 @@ fn wrong_arguments_of_report() {
     assert_mistake(&["report"], "one FILE");
     assert_mistake(&["report", "a", "b"], "one FILE");
     assert_mistake(&["report", "--file"], "unknown flag '--file'");
-    assert_mistake(&["report", "/no/such/file"], "cannot read '/no/such/file'");
+}
+
+/// The call is right, so no usage is shown.
+#[test]
+fn what_cannot_be_done_fails() {
+    let unread = message(&["report", "/no/such/file"], 1);
+    assert!(unread.starts_with("cannot read '/no/such/file': "));
+    assert_eq!(unread.lines().count(), 1, "{unread}");
+    let unwritten = message(&["samples", "/dev/null/folder"], 1);
+    assert!(unwritten.starts_with("cannot write '/dev/null/folder': "));
+    assert_eq!(unwritten.lines().count(), 1, "{unwritten}");
+}
+
+#[test]
+fn help_names_every_subcommand() {
+    let help = stdout(&harness(&["help"]));
+    assert!(help.starts_with("usage:\n"), "{help}");
+    for subcommand in [
+        "report", "sample", "samples", "property", "fuzz", "table", "bench", "help",
+    ] {
+        assert!(
+            help.contains(&format!("\n  harness {subcommand} ")),
+            "{help}"
+        );
+    }
+    for arguments in [
+        &["-h"][..],
+        &["--help"],
+        &["help", "fuzz"],
+        &["fuzz", "--help"],
+        &["report", "-h"],
+        &["table", "extra", "--help"],
+    ] {
+        assert_eq!(stdout(&harness(arguments)), help, "{arguments:?}");
+    }
 }
 
 #[test]

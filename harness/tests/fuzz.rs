@@ -94,7 +94,7 @@ fn a_number_is_written_too_wide() {
         write_number: |column, number| {
             (PROVED.write_number)(column, number);
             if number > 99 {
-                // One byte before the column.
+                // SAFETY: `Guarded` keeps 32 bytes or more before the column in the same buffer.
                 unsafe { *column.as_mut_ptr().sub(1) = b'1' };
             }
         },
@@ -221,6 +221,7 @@ fn a_row_behind_the_table_is_written() {
     let found = found(Side {
         plan: |cluster, n, m, leader, present, plan, rows, status, number| {
             if rows.len() == 7 {
+                // SAFETY: `Guarded` keeps 32 rows behind the table in the same buffer.
                 unsafe { (*rows.as_mut_ptr().add(7)).length ^= 1 };
             }
             (PROVED.plan)(cluster, n, m, leader, present, plan, rows, status, number)
@@ -269,6 +270,7 @@ fn a_step_of_seven_replicas_writes_outside() {
     let found = found(Side {
         step: |cluster, n, m, leader, present, status, replica, slot, kind| {
             if n == 7 && m > 2 {
+                // SAFETY: `Guarded` keeps 32 bytes behind the cluster in the same buffer.
                 unsafe { *cluster.as_mut_ptr().add(cluster.len()) ^= 1 };
             }
             (PROVED.step)(cluster, n, m, leader, present, status, replica, slot, kind)

@@ -55,6 +55,7 @@ pub fn plan(
     let (cluster, len) = (cluster.as_ptr(), cluster.len());
     let (plan, plan_len) = (plan.as_mut_ptr(), plan.len());
     let (rows, rows_len) = (rows.as_mut_ptr(), rows.len());
+    // SAFETY: the slices and the numbers are lent for the call, and none overlaps another.
     unsafe {
         exported::rope_plan(
             cluster, len, n, m, leader, present, plan, plan_len, rows, rows_len, status, number,
@@ -76,6 +77,7 @@ pub fn step(
     kind: &mut u8,
 ) -> u8 {
     let (cluster, len) = (cluster.as_mut_ptr(), cluster.len());
+    // SAFETY: the slice and the numbers are lent for the call, and none overlaps another.
     unsafe {
         exported::rope_step(
             cluster, len, n, m, leader, present, status, replica, slot, kind,
@@ -97,6 +99,7 @@ pub fn run(
     slot: &mut usize,
 ) -> u8 {
     let (cluster, len) = (cluster.as_mut_ptr(), cluster.len());
+    // SAFETY: the slice and the numbers are lent for the call, and none overlaps another.
     unsafe {
         exported::rope_run(
             cluster, len, n, m, leader, present, budget, status, stores, slot,

@@ -5,6 +5,7 @@ use super::exported;
 
 /// Writes a fresh image over the whole lent buffer.
 pub fn format(image: &mut [u8], replica: usize, n: usize, m: usize) -> u8 {
+    // SAFETY: the slice is lent for the call.
     unsafe { exported::rope_format(image.as_mut_ptr(), image.len(), replica, n, m) }
 }
 
@@ -20,6 +21,7 @@ pub fn append(
 ) -> u8 {
     let (image, len) = (image.as_mut_ptr(), image.len());
     let (payload, payload_len) = (payload.as_ptr(), payload.len());
+    // SAFETY: the slices and the number are lent for the call, and none overlaps another.
     unsafe { exported::rope_append(image, len, replica, n, m, epoch, payload, payload_len, slot) }
 }
 
@@ -36,6 +38,7 @@ pub fn read(
     let (image, len) = (image.as_ptr(), image.len());
     let (epochs, epochs_len) = (epochs.as_mut_ptr(), epochs.len());
     let (verdicts, verdicts_len) = (verdicts.as_mut_ptr(), verdicts.len());
+    // SAFETY: the slices and the number are lent for the call, and none overlaps another.
     unsafe {
         exported::rope_read(
             image,
@@ -62,6 +65,7 @@ pub fn has_payload(
     has: &mut u8,
 ) -> u8 {
     let (pointer, len) = (image.as_ptr(), image.len());
+    // SAFETY: the slice and the number are lent for the call, and do not overlap.
     unsafe { exported::rope_has_payload(pointer, len, replica, n, m, slot, has) }
 }
 
@@ -76,6 +80,7 @@ pub fn payload(
     size: &mut usize,
 ) -> bool {
     let (pointer, len) = (image.as_ptr(), image.len());
+    // SAFETY: the slice and the numbers are lent for the call, and none overlaps another.
     match unsafe { exported::rope_payload(pointer, len, replica, n, m, slot, at, size) } {
         0 => false,
         1 => true,
