@@ -9,6 +9,7 @@ pub mod bench;
 pub mod call;
 pub mod code;
 pub mod compare;
+pub mod comparisons;
 pub mod fuzz;
 pub mod generate;
 pub mod guarded;

@@ -10,6 +10,7 @@ use std::time::Duration;
 
 use harness::bench;
 use harness::code::MODEL;
+use harness::comparisons;
 use harness::fuzz;
 use harness::generate::example_input;
 use harness::model;
@@ -23,6 +24,7 @@ const USAGE: &str = "usage:
   harness sample                         write the input of the printed example
   harness samples DIR                    write small clusters and their plans into DIR
   harness property --cases N --seed S    check what recovery promises on generated clusters
+  harness compare --cases N --seed S     compare so many generated cases of every kind of call
   harness fuzz --seconds N --seed S      compare all calls by the model and the proved code
   harness table                          try all damaged sets of four entries on three replicas
   harness bench                          time the proved functions beside the model's
@@ -83,6 +85,7 @@ fn dispatch(arguments: &[String]) -> Result<(), Failure> {
         "sample" => sample(rest),
         "samples" => all_samples(rest),
         "property" => check_property(rest),
+        "compare" => compare_cases(rest),
         "fuzz" => fuzz_calls(rest),
         "table" => table(rest),
         "bench" => time_functions(rest),
@@ -152,6 +155,21 @@ fn check_property(arguments: &[String]) -> Result<(), Failure> {
          images: {cases} cases\nall conclusions hold\n"
     );
     print_bytes(text.as_bytes())
+}
+
+/// Compares as many cases as are asked for, as the tests compare fewer.
+fn compare_cases(arguments: &[String]) -> Result<(), Failure> {
+    let [cases, seed] = flag_values(arguments, ["--cases", "--seed"])?;
+    for (kind, comparison) in comparisons::KINDS {
+        let shown = progress::show(move |done, _| format!("{kind}: {done} of {cases} cases"));
+        let compared = panic::catch_unwind(|| comparison(seed, cases));
+        drop(shown);
+        let Ok(tally) = compared else {
+            return failed(format!("{kind}: see the first message above"));
+        };
+        print_bytes(format!("{kind}: {cases} cases\n{tally}").as_bytes())?;
+    }
+    print_bytes(b"no difference\n")
 }
 
 /// Makes generated calls of every kind by both for some time.

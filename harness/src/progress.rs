@@ -26,7 +26,7 @@ pub struct Shown {
 /// Shows what the text says of the work done and the time since now; nothing in a pipe.
 pub fn show(text: impl Fn(u64, Duration) -> String + Send + 'static) -> Shown {
     if io::stderr().is_terminal() {
-        show_on(io::stderr(), text)
+        show_on(io::stderr(), &DONE, text)
     } else {
         Shown { line: None }
     }
@@ -34,14 +34,15 @@ pub fn show(text: impl Fn(u64, Duration) -> String + Send + 'static) -> Shown {
 
 fn show_on(
     mut terminal: impl Write + Send + 'static,
+    work: &'static AtomicU64,
     text: impl Fn(u64, Duration) -> String + Send + 'static,
 ) -> Shown {
-    DONE.store(0, Ordering::Relaxed);
+    work.store(0, Ordering::Relaxed);
     let start = Instant::now();
     let (end, ended) = mpsc::channel();
     let thread = thread::spawn(move || {
         while ended.recv_timeout(INTERVAL) == Err(RecvTimeoutError::Timeout) {
-            let line = text(DONE.load(Ordering::Relaxed), start.elapsed());
+            let line = text(work.load(Ordering::Relaxed), start.elapsed());
             // A terminal that is gone is no reason to stop the work.
             let _ = write!(terminal, "{EMPTIED}{line}").and_then(|()| terminal.flush());
         }
@@ -81,9 +82,11 @@ mod tests {
 
     #[test]
     fn one_line_is_rewritten_and_emptied_at_last() {
+        // Other tests count their work elsewhere.
+        static WORK: AtomicU64 = AtomicU64::new(0);
         let screen = Screen::default();
-        let shown = show_on(screen.clone(), |done, _| format!("{done} done"));
-        (0..7).for_each(|_| step());
+        let shown = show_on(screen.clone(), &WORK, |done, _| format!("{done} done"));
+        WORK.fetch_add(7, Ordering::Relaxed);
         while screen.0.lock().unwrap().len() < 60 {
             thread::sleep(INTERVAL);
         }

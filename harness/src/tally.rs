@@ -1,9 +1,12 @@
 //! How often something came up in generated cases, so that a test can ask for everything to occur.
 
 use std::collections::BTreeMap;
+use std::fmt;
+use std::sync::atomic::{AtomicU64, Ordering};
 use std::thread;
 
 use crate::generate::Rng;
+use crate::progress;
 use crate::property::case_rng;
 
 /// Counts by a word and a number.
@@ -42,23 +45,51 @@ impl Tally {
     }
 }
 
+/// A line for each word: how many numbers came up, and how often the rarest of them.
+impl fmt::Display for Tally {
+    fn fmt(&self, f: &mut fmt::Formatter) -> fmt::Result {
+        let mut words: BTreeMap<&str, Vec<u64>> = BTreeMap::new();
+        for (&(what, _), &count) in &self.counts {
+            words.entry(what).or_default().push(count);
+        }
+        for (what, counts) in words {
+            let kinds = if counts.len() == 1 { "kind" } else { "kinds" };
+            let rarest = counts.iter().min().unwrap_or(&0);
+            writeln!(
+                f,
+                "  {what}: {} {kinds}, the rarest {rarest} times",
+                counts.len()
+            )?;
+        }
+        Ok(())
+    }
+}
+
 /// Plays so many cases of a seed on two threads, and adds up what they have met.
 pub fn each_case(seed: u64, cases: u64, case: impl Fn(&mut Rng, &mut Tally) + Sync) -> Tally {
     const THREADS: u64 = 2;
-    let part = |from: u64| {
+    // A thread that had a long case leaves the next ones to the other.
+    let next = AtomicU64::new(0);
+    let part = || {
         let mut tally = Tally::default();
-        for number in (from..cases).step_by(THREADS as usize) {
-            let _named = Named { seed, number };
+        loop {
+            let number = next.fetch_add(1, Ordering::Relaxed);
+            if number >= cases {
+                return tally;
+            }
+            let _named = Named {
+                seed,
+                number,
+                next: &next,
+                cases,
+            };
             case(&mut case_rng(seed, number), &mut tally);
+            progress::step();
         }
-        tally
     };
     let mut tally = Tally::default();
     thread::scope(|scope| {
-        let part = &part;
-        let parts: Vec<_> = (0..THREADS)
-            .map(|from| scope.spawn(move || part(from)))
-            .collect();
+        let parts: Vec<_> = (0..THREADS).map(|_| scope.spawn(part)).collect();
         for part in parts {
             tally.add(&part.join().expect("a case failed"));
         }
@@ -66,16 +97,19 @@ pub fn each_case(seed: u64, cases: u64, case: impl Fn(&mut Rng, &mut Tally) + Sy
     tally
 }
 
-/// Names the case that fails.
-struct Named {
+/// Names the case that fails, after which no other is begun.
+struct Named<'a> {
     seed: u64,
     number: u64,
+    next: &'a AtomicU64,
+    cases: u64,
 }
 
-impl Drop for Named {
+impl Drop for Named<'_> {
     fn drop(&mut self) {
         if thread::panicking() {
             eprintln!("failed: case {} of seed {}", self.number, self.seed);
+            self.next.store(self.cases, Ordering::Relaxed);
         }
     }
 }
@@ -91,6 +125,23 @@ mod tests {
         let one_by_one = (0..3).map(|number| tally.of("drawn", number));
         assert_eq!(one_by_one.sum::<u64>(), 1001);
         tally.assert_each("drawn", &[0, 1, 2], 250);
+    }
+
+    #[test]
+    #[should_panic(expected = "a case failed")]
+    fn one_case_that_fails_is_told() {
+        each_case(1, 100, |rng, _| assert_ne!(rng.below(100), 50));
+    }
+
+    #[test]
+    fn a_tally_is_printed_by_its_words() {
+        let mut tally = Tally::default();
+        for (what, number) in [("read", 0), ("read", 3), ("read", 3), ("append", 1)] {
+            tally.count(what, number);
+        }
+        let expected =
+            "  append: 1 kind, the rarest 1 times\n  read: 2 kinds, the rarest 1 times\n";
+        assert_eq!(tally.to_string(), expected);
     }
 
     #[test]

@@ -5,6 +5,7 @@ use std::fs;
 use std::io::Write;
 use std::process::{Command, Output, Stdio};
 
+use harness::comparisons::KINDS;
 use harness::generate::Cluster;
 use harness::model::report;
 
@@ -101,6 +102,27 @@ fn property_prints_a_summary() {
 }
 
 #[test]
+fn compare_prints_every_kind() {
+    let printed = stdout(&harness(&["compare", "--cases", "200", "--seed", "5"]));
+    for (kind, _) in KINDS {
+        let heading = format!("{kind}: 200 cases\n  ");
+        assert!(printed.contains(&heading), "{printed}");
+    }
+    assert!(printed.ends_with("no difference\n"), "{printed}");
+    let swapped = stdout(&harness(&["compare", "--seed", "5", "--cases", "200"]));
+    assert_eq!(printed, swapped);
+}
+
+#[test]
+fn wrong_arguments_of_compare() {
+    assert_mistake(&["compare"], "--cases is missing");
+    assert_mistake(&["compare", "--cases", "1"], "--seed is missing");
+    let word = ["compare", "--cases", "all", "--seed", "1"];
+    assert_mistake(&word, "--cases needs a number, not 'all'");
+    assert_mistake(&["compare", "--clusters", "1"], "unknown flag '--clusters'");
+}
+
+#[test]
 fn fuzz_finds_nothing() {
     let printed = stdout(&harness(&["fuzz", "--seconds", "1", "--seed", "5"]));
     assert!(printed.starts_with("seed 5: "), "{printed}");
@@ -127,8 +149,9 @@ fn wrong_arguments_of_fuzz() {
 /// Progress is for a terminal: in a pipe nothing but the result is printed, however long it takes.
 #[test]
 fn long_commands_are_quiet_in_a_pipe() {
-    let long: [&[&str]; 3] = [
+    let long: [&[&str]; 4] = [
         &["property", "--cases", "600", "--seed", "1"],
+        &["compare", "--cases", "2000", "--seed", "1"],
         &["fuzz", "--seconds", "1", "--seed", "1"],
         &["table"],
     ];
@@ -172,7 +195,7 @@ fn help_names_every_subcommand() {
     let help = stdout(&harness(&["help"]));
     assert!(help.starts_with("usage:\n"), "{help}");
     for subcommand in [
-        "report", "sample", "samples", "property", "fuzz", "table", "bench", "help",
+        "report", "sample", "samples", "property", "compare", "fuzz", "table", "bench", "help",
     ] {
         assert!(
             help.contains(&format!("\n  harness {subcommand} ")),

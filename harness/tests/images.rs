@@ -2,75 +2,20 @@
 //! same bytes in everything that was lent, and nothing written outside.
 
 use harness::compare::agree;
+use harness::comparisons::images::{self, compare, compare_read};
+use harness::comparisons::ENOUGH;
 use harness::generate::{image_calls, ImageCalls, Rng};
 use harness::model::{image_len, MAX_SLOTS};
 use harness::property::case_rng;
-use harness::tally::{each_case, Tally};
+use harness::tally::Tally;
 
-const IMAGES: u64 = 1_000_000;
-
-/// Makes all calls by both.
-fn compare(rng: &mut Rng, calls: &ImageCalls, tally: &mut Tally) {
-    compare_read(rng, calls, tally);
-    for slot in 0..=calls.m.min(MAX_SLOTS) + 1 {
-        compare_payload(rng, calls, slot, tally);
-    }
-    compare_payload(rng, calls, usize::MAX, tally);
-    let append = agree(rng, &calls.append());
-    tally.count("append", append.answer.code());
-    let format = agree(rng, &calls.format());
-    tally.count("format", format.answer.code());
-}
-
-fn compare_read(rng: &mut Rng, calls: &ImageCalls, tally: &mut Tally) {
-    let read = agree(rng, &calls.read());
-    tally.count("read", read.answer.code());
-    if read.answer.code() == 0 {
-        for &verdict in read.bytes("verdicts") {
-            tally.count("verdict", usize::from(verdict));
-        }
-    }
-}
-
-/// A slot is asked for, or one that there is not.
-fn compare_payload(rng: &mut Rng, calls: &ImageCalls, slot: usize, tally: &mut Tally) {
-    let has = agree(rng, &calls.has_payload(slot));
-    let payload = agree(rng, &calls.payload(slot));
-    let found = payload.answer.code();
-    assert_eq!(found == 1, has.answer.code() == 0 && has.number("has") == 1);
-    tally.count("payload", found);
-}
-
-/// Each of these came up in at least one image of a thousand.
-fn assert_covers(tally: &Tally, images: u64) {
-    let one_of_many = images / 1000;
-    tally.assert_each("read", &[0, 1, 2, 3, 4, 5, 6, 7, 13], one_of_many);
-    let append = [0, 1, 2, 3, 4, 5, 6, 7, 8, 9, 10];
-    tally.assert_each("append", &append, one_of_many);
-    tally.assert_each("format", &[0, 1, 2, 3], one_of_many);
-    tally.assert_each("verdict", &[0, 1, 2, 3, 4, 5], one_of_many);
-    tally.assert_each("payload", &[0, 1], one_of_many);
-}
-
-/// Mostly few slots, since each is asked for and each asking reads the image.
-fn few_slots(rng: &mut Rng) -> usize {
-    match rng.below(32) {
-        0..=15 => 1,
-        16..=25 => 2,
-        26..=30 => 3,
-        _ => rng.between(4, 8),
-    }
-}
+/// `harness compare` makes as many as are asked for.
+const IMAGES: u64 = 500_000;
+const _: () = assert!(IMAGES >= ENOUGH);
 
 #[test]
 fn images() {
-    let tally = each_case(1, IMAGES, |rng, tally| {
-        let m = few_slots(rng);
-        let calls = image_calls(rng, m);
-        compare(rng, &calls, tally);
-    });
-    assert_eq!(tally.all("read"), IMAGES);
-    assert_covers(&tally, IMAGES);
+    images::images(1, IMAGES);
 }
 
 #[test]

@@ -3,13 +3,14 @@
 
 use harness::call::Call;
 use harness::compare::{agree, Answer, Outcome};
-use harness::generate::piece_calls::*;
+use harness::comparisons::{pieces, ENOUGH};
+use harness::generate::piece_calls::WIDEST;
 use harness::generate::pieces::{payload_of, some_word, spoil};
 use harness::generate::Rng;
 use harness::model::*;
 use harness::proved::{self, Column, Entry, Record, Written};
-use harness::tally::{each_case, Tally};
 
+/// `harness compare` makes as many as are asked for.
 const CHECKSUMS: u64 = 100_000;
 const COLUMNS_WRITTEN: u64 = 200_000;
 const COLUMNS_READ: u64 = 250_000;
@@ -19,18 +20,8 @@ const ENTRIES: u64 = 200_000;
 
 const _: () =
     assert!(CHECKSUMS + COLUMNS_WRITTEN + COLUMNS_READ + HEADERS + RECORDS + ENTRIES >= 1_000_000);
-
-/// Makes a call by both, and counts its answer.
-fn compare(rng: &mut Rng, call: &Call, tally: &mut Tally) {
-    let outcome = agree(rng, call);
-    tally.count(call.name(), outcome.answer.code());
-}
-
-/// Every answer comes up in at least one case of thirty.
-fn assert_covered(tally: &Tally, call: &'static str, cases: u64, answers: &[usize]) {
-    assert_eq!(tally.all(call), cases);
-    tally.assert_each(call, answers, cases / 30);
-}
+const _: () = assert!(COLUMNS_READ >= ENOUGH && HEADERS >= ENOUGH);
+const _: () = assert!(RECORDS >= ENOUGH && ENTRIES >= ENOUGH);
 
 fn read_column(rng: &mut Rng, column: &[u8]) -> Answer {
     let column = column.to_vec();
@@ -49,10 +40,7 @@ fn judge_entry(rng: &mut Rng, entry: &[u8], index: u32) -> Answer {
 
 #[test]
 fn checksums() {
-    each_case(1, CHECKSUMS, |rng, _| {
-        let call = checksum_call(rng);
-        agree(rng, &call);
-    });
+    pieces::checksums(1, CHECKSUMS);
     for length in [65_534, 65_535, 65_536, 65_537, 300_000] {
         let bytes = vec![255; length];
         agree(&mut Rng::new(1), &Call::Checksum { bytes });
@@ -61,10 +49,7 @@ fn checksums() {
 
 #[test]
 fn columns_written() {
-    each_case(2, COLUMNS_WRITTEN, |rng, _| {
-        let call = write_number_call(rng);
-        agree(rng, &call);
-    });
+    pieces::columns_written(2, COLUMNS_WRITTEN);
     let mut rng = Rng::new(2);
     let edges = (0..20).flat_map(|power| (0..3).map(move |step| 10u64.pow(power) - 1 + step));
     let mut numbers: Vec<u64> = edges.collect();
@@ -78,11 +63,7 @@ fn columns_written() {
 
 #[test]
 fn columns_read() {
-    let tally = each_case(3, COLUMNS_READ, |rng, tally| {
-        let call = read_column_call(rng);
-        compare(rng, &call, tally);
-    });
-    assert_covered(&tally, "ReadColumn", COLUMNS_READ, &[0, 1, 2, 3]);
+    pieces::columns_read(3, COLUMNS_READ);
 }
 
 /// What is written is read back, at every width.
@@ -127,13 +108,7 @@ fn narrow_columns() {
 
 #[test]
 fn headers() {
-    let tally = each_case(6, HEADERS, |rng, tally| {
-        for call in header_calls(rng) {
-            compare(rng, &call, tally);
-        }
-    });
-    assert_covered(&tally, "IsHeader", HEADERS, &[0, 1]);
-    assert_covered(&tally, "WriteHeader", HEADERS, &[0, 1]);
+    pieces::headers(6, HEADERS);
 }
 
 /// A header is its own for no other numbers, and with no byte changed.
@@ -159,14 +134,7 @@ fn headers_of_other_numbers() {
 
 #[test]
 fn records() {
-    let tally = each_case(7, RECORDS, |rng, tally| {
-        for call in record_calls(rng) {
-            compare(rng, &call, tally);
-        }
-    });
-    assert_covered(&tally, "JudgeRecord", RECORDS, &[0, 1, 2, 3]);
-    assert_covered(&tally, "WriteRecord", RECORDS, &[0, 1]);
-    assert_covered(&tally, "WriteBlankRecord", RECORDS, &[0, 1]);
+    pieces::records(7, RECORDS);
 }
 
 /// Every single byte of a good record and of a blank one, changed into every other.
@@ -190,14 +158,7 @@ fn records_with_one_byte_changed() {
 
 #[test]
 fn entries() {
-    let tally = each_case(9, ENTRIES, |rng, tally| {
-        for call in entry_calls(rng) {
-            compare(rng, &call, tally);
-        }
-    });
-    assert_covered(&tally, "JudgeEntry", ENTRIES, &[0, 1, 2]);
-    assert_covered(&tally, "WriteEntry", ENTRIES, &[0, 1, 2]);
-    assert_covered(&tally, "WriteFreshEntry", ENTRIES, &[0, 1]);
+    pieces::entries(9, ENTRIES);
 }
 
 fn write_entry_of(rng: &mut Rng, length: usize, epoch: u32, index: u32, size: usize) -> Outcome {

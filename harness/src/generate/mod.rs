@@ -22,7 +22,7 @@ pub use history::{agreed_case, AgreedCase, Committed};
 pub use images::{image_calls, ImageCalls};
 pub use noise::{noise_cluster, noise_image, noise_report_input, ImageCase};
 pub use pieces::{entry_piece, header_piece, record_piece, HeaderPiece, Piece};
-pub use recovery::recovery_case;
+pub use recovery::{recovery_case, recovery_case_of};
 pub use rng::Rng;
 pub use small::{small_case, SMALL_CASES};
 

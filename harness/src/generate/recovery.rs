@@ -7,9 +7,14 @@ use super::rng::Rng;
 use super::Case;
 use crate::model::MAX_SLOTS;
 
-/// A cluster of any kind: agreed and damaged, arbitrary, or spoilt.
+/// A cluster of any kind and size.
 pub fn recovery_case(rng: &mut Rng) -> Case {
     let (n, m) = some_shape(rng);
+    recovery_case_of(rng, n, m)
+}
+
+/// A cluster of any kind: agreed and damaged, arbitrary, or spoilt.
+pub fn recovery_case_of(rng: &mut Rng, n: usize, m: usize) -> Case {
     let mut case = match rng.below(10) {
         0..=5 => agreed_case_of(rng, n, m).case,
         6..=7 => arbitrary_case_of(rng, n, m),

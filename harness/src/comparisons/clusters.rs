@@ -1,0 +1,136 @@
+//! The calls about a cluster.
+
+use super::one_of;
+use crate::call::Call;
+use crate::compare::{agree, Outcome};
+use crate::generate::{agreed_case, arbitrary_case, noise_cluster, plan_call, recovery_case};
+use crate::generate::{Case, Rng};
+use crate::tally::{each_case, Tally};
+
+/// Plans by both, and counts how it went.
+pub fn compare_plan(rng: &mut Rng, call: &Call, tally: &mut Tally) {
+    let outcome = agree(rng, call);
+    tally.count("refusal", outcome.answer.code());
+    match outcome.answer.code() {
+        0 => count_plan(&outcome, tally),
+        13 => count_lengths(call, tally),
+        _ => {}
+    }
+}
+
+/// The status, each byte of the plan, and each row: of no replica within reach 0, of an empty log 1,
+/// of a log with an epoch 2.
+fn count_plan(outcome: &Outcome, tally: &mut Tally) {
+    tally.count("status", outcome.number("status") as usize);
+    for &byte in outcome.bytes("plan") {
+        tally.count("plan byte", usize::from(byte));
+    }
+    for row in outcome.rows("rows") {
+        let epoch = usize::from(row.last_epoch > 0);
+        tally.count("row", usize::from(row.readable) + epoch);
+    }
+}
+
+/// What was lent with the wrong length.
+fn count_lengths(call: &Call, tally: &mut Tally) {
+    let &Call::Plan {
+        n, m, slots, rows, ..
+    } = call
+    else {
+        panic!("{call} is no plan");
+    };
+    tally.count("wrong plan", usize::from(slots != m));
+    tally.count("wrong table", usize::from(rows != n));
+}
+
+/// Any cluster.
+fn some_case(rng: &mut Rng) -> Case {
+    let mut case = match rng.below(10) {
+        0..=4 => agreed_case(rng).case,
+        5..=7 => arbitrary_case(rng),
+        _ => noise_cluster(rng),
+    };
+    if rng.chance(1) {
+        case.leader = *rng.pick(&[0, 1, case.n, case.n.wrapping_add(1), 8, 32, 33, usize::MAX]);
+    }
+    case
+}
+
+/// Plans of any clusters.
+pub fn plans(seed: u64, clusters: u64) -> Tally {
+    let tally = each_case(seed, clusters, |rng, tally| {
+        let case = some_case(rng);
+        let call = plan_call(rng, &case);
+        compare_plan(rng, &call, tally);
+    });
+    assert_eq!(tally.all("refusal"), clusters);
+    let some = one_of(2000, clusters);
+    tally.assert_each("refusal", &[0, 1, 2, 3, 11, 12, 13], some);
+    tally.assert_each("status", &[0, 1], some);
+    let bytes = [0, 1, 2, 3, 4, 5, 11, 12, 13, 14, 15, 16, 17];
+    tally.assert_each("plan byte", &bytes, some);
+    tally.assert_each("row", &[0, 1, 2], some);
+    tally.assert_each("wrong plan", &[0, 1], some);
+    tally.assert_each("wrong table", &[0, 1], some);
+    tally
+}
+
+/// Makes a call of a recovery by both, and counts how it went; answers nothing if it is refused.
+fn compare_call(rng: &mut Rng, call: &Call, tally: &mut Tally) -> Option<(Outcome, u64)> {
+    let outcome = agree(rng, call);
+    tally.count("refusal", outcome.answer.code());
+    if outcome.answer.code() != 0 {
+        return None;
+    }
+    let status = outcome.number("status");
+    tally.count(call.name(), status as usize);
+    Some((outcome, status))
+}
+
+/// Steps to the end. Answers the cluster that they leave and how many stores they made.
+fn compare_steps(rng: &mut Rng, case: &Case, tally: &mut Tally) -> (Vec<u8>, u64) {
+    let mut now = case.clone();
+    let mut stores = 0;
+    while let Some((step, 2)) = compare_call(rng, &now.step(), tally) {
+        tally.count("kind", step.number("kind") as usize);
+        now.cluster.copy_from_slice(step.bytes("cluster"));
+        stores += 1;
+    }
+    (now.cluster, stores)
+}
+
+/// Steps to the end, a run to the end, and one of a drawn budget.
+pub fn compare_recovery(rng: &mut Rng, case: &Case, tally: &mut Tally) {
+    let (recovered, stores) = compare_steps(rng, case, tally);
+    if let Some((run, status)) = compare_call(rng, &case.run(u64::MAX), tally) {
+        assert!(status == 1 || run.number("stores") == stores);
+        assert!(run.bytes("cluster") == recovered, "a run is not its steps");
+        tally.count("n", case.n);
+        tally.count("m", case.m);
+        for few in [1, 10, 100] {
+            if stores >= few {
+                tally.count("stores", few as usize);
+            }
+        }
+    }
+    let some = rng.below(stores as usize + 2) as u64;
+    let budget = *rng.pick(&[0, some, some, stores.saturating_sub(1), stores]);
+    compare_call(rng, &case.run(budget), tally);
+}
+
+/// Recoveries of clusters of every size, to their ends.
+pub fn recoveries(seed: u64, clusters: u64) -> Tally {
+    let tally = each_case(seed, clusters, |rng, tally| {
+        let case = recovery_case(rng);
+        compare_recovery(rng, &case, tally);
+    });
+    let many = one_of(100, clusters);
+    tally.assert_each("refusal", &[0, 1, 2, 3, 11, 12], one_of(1000, clusters));
+    tally.assert_each("Step", &[0, 1, 2], many);
+    tally.assert_each("Run", &[0, 1, 2], many);
+    tally.assert_each("kind", &[1, 2, 3], many);
+    tally.assert_each("n", &[3, 5, 7], many);
+    tally.assert_each("stores", &[1, 10], many);
+    tally.assert_each("stores", &[100], one_of(10_000, clusters));
+    tally
+}
