@@ -7,10 +7,12 @@ use native.Mathlib.Omega.{arith}
 use native.Mathlib.Numerals.{add-one}
 use native.Mathlib.Nat.{pow-suc, zero-add}
 use lib.Dec.{eqb, leb}
-use lib.ListN.{length, length-append}
+use lib.ListN.{length, take, drop, length-append, length-take, length-drop}
 use borrow.Author.Tests.{eqb-true, leb-true, le-leb}
-use Rattle.slices.specs.Parts.{Bytes}
+use borrow.Rule.Slice.PartMut.{putMid}
+use Rattle.slices.specs.Parts.{Bytes, spliced}
 use Rattle.slices.proofs.SameLaws.{and-right}
+use Rattle.slices.proofs.SpliceLaws.{part-put}
 use Rattle.column.specs.Column.{digits, column, digitStep, valueFrom, valueOf}
 use Rattle.column.specs.Digit.{lastByte, highByte}
 
@@ -99,3 +101,10 @@ value-lt-from (x ∷ b) v i h =
 pub value-lt : (b : Bytes) → valueOf b < 10 ^ length b
 unfolding valueOf
 value-lt b = rw zero-add at (value-lt-from b 0 0 (omega arith))
+
+-- a lent column that is written
+pub column-put : (s : Bytes) (at w x : ℕ) {v : Bytes} → at + w ≤ length s → v ≡ column (length (take (at + w - at) (drop at s))) x
+    → putMid at (at + w - at) s v ≡ spliced s at (column w x)
+column-put s at w x {v} fits e =
+    let l : length (take (at + w - at) (drop at s)) ≡ w = simp (length-take, length-drop) (omega arith) in
+    part-put s at w (column w x) (rw l at e) (length-column w x)

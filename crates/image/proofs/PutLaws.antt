@@ -1,21 +1,15 @@
--- A lent middle part that is written is a splice, and splices of one size, one behind the other, are one splice.
-use Prim.Native.Nat.{ℕ, _+_, _-_, _*_, _≤_}
+-- Splices of one size, one behind the other, are one splice.
+use Prim.Native.Nat.{ℕ, _+_, _*_, _≤_}
 use mathlib.Core.Path.{_≡_, sym, ap, _∙_}
 use mathlib.Core.List.{_++_, append-assoc}
 use native.Mathlib.Omega.{arith}
 use native.Mathlib.Numerals.{add-one}
 use lib.ListN.{length, take, drop, length-append, take-append-drop}
 use lib.Seq.{length-take-le, drop-drop}
-use borrow.Rule.Slice.PartMut.{putMid}
 use Rattle.search.specs.Search.{joined}
 use Rattle.search.proofs.ListedLaws.{length-joined}
 use Rattle.slices.specs.Parts.{Bytes, spliced}
-use Rattle.slices.proofs.SpliceLaws.{length-spliced, spliced-lent, spliced-next}
-
-pub part-put : (b : Bytes) (a l : ℕ) (v : Bytes) {x : Bytes} → x ≡ v → length v ≡ l → putMid a (a + l - a) b x ≡ spliced b a v
-part-put b a l v e h =
-    let k : a + l - a ≡ l = omega arith in
-    rw (k, e) (spliced-lent b a l v h)
+use Rattle.slices.proofs.SpliceLaws.{length-spliced, spliced-next}
 
 -- a splice right behind another
 pub spliced-more : (b v w : Bytes) (a k : ℕ) → a + length v ≡ k → k ≤ length b → spliced (spliced b a v) k w ≡ spliced b a (v ++ w)

@@ -4,11 +4,10 @@ use mathlib.Core.Path.{_≡_, refl, sym, _∙_, ap}
 use mathlib.Core.List.{[], _++_, append-assoc}
 use native.Mathlib.Omega.{arith}
 use native.Mathlib.Nat.{sub-zero}
-use lib.ListN.{length, take, drop, set, replicate, length-append, length-replicate, length-take, length-drop, take-append-drop}
+use lib.ListN.{length, take, drop, set, replicate, length-append, length-replicate, take-append-drop}
 use lib.Seq.{take-at, take-all, set-split, length-take-le}
-use borrow.Rule.Slice.PartMut.{putMid}
 use Rattle.slices.specs.Parts.{Bytes, spliced}
-use Rattle.slices.proofs.SpliceLaws.{length-spliced, drop-spliced, spliced-lent}
+use Rattle.slices.proofs.SpliceLaws.{length-spliced, drop-spliced}
 use Rattle.checksum.specs.Checksum.{checksumOf}
 use Rattle.column.specs.Column.{column}
 use Rattle.column.proofs.ColumnLaws.{length-column}
@@ -59,19 +58,6 @@ pub whole : {x s : Bytes} {size : ℕ} → Written x size s → length x ≡ siz
 whole {x} {s} w h = begins-whole x s (h ∙ sym (w .sized)) (w .begins)
 
 -- ---- one store, as the borrow checker hands the buffer back
-
-pub column-put : (s : Bytes) (at w x : ℕ) {v : Bytes} → at + w ≤ length s → v ≡ column (length (take (at + w - at) (drop at s))) x
-    → putMid at (at + w - at) s v ≡ spliced s at (column w x)
-column-put s at w x {v} fits e =
-    let k : at + w - at ≡ w = omega arith in
-    let l : length (take (at + w - at) (drop at s)) ≡ w = simp (length-take, length-drop) (omega arith) in
-    let f : v ≡ column w x = rw l at e in
-    rw (k, f) (spliced-lent s at w (column w x) (length-column w x))
-
-pub bytes-put : (s b : Bytes) (at : ℕ) {v : Bytes} → v ≡ b → putMid at (at + length b - at) s v ≡ spliced s at b
-bytes-put s b at {v} e =
-    let k : at + length b - at ≡ length b = omega arith in
-    rw (k, e) (spliced-lent s at (length b) b refl)
 
 -- a checksum's column and the newline behind it
 pub seal-put : (s : Bytes) (at sum : ℕ) {t : Bytes} → at + 12 ≤ length s → sum ≡ checksumOf (take (at - 0) s) → t ≡ spliced s at (column 11 sum)

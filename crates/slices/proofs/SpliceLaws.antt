@@ -72,6 +72,12 @@ pub spliced-lent : (b : Bytes) (a k : ℕ) (v : Bytes) → length v ≡ k → pu
 unfolding spliced
 spliced-lent b a k v h = rw (← h, drop-drop) refl
 
+-- a lent middle part that is written
+pub part-put : (b : Bytes) (a l : ℕ) (v : Bytes) {x : Bytes} → x ≡ v → length v ≡ l → putMid a (a + l - a) b x ≡ spliced b a v
+part-put b a l v e h =
+    let k : a + l - a ≡ l = omega arith in
+    rw (k, e) (spliced-lent b a l v h)
+
 -- the part as it is lent, from offset to end
 pub part-lent : (b : Bytes) (a l : ℕ) → take (a + l - a) (drop a b) ≡ part b a l
 unfolding part

@@ -1,4 +1,6 @@
-use Rattle.record.proofs.WriteLaws as law
+-- `put_bytes` lends the middle part, and copies.
+use mathlib.Core.Path.{refl}
+use Rattle.slices.proofs.SpliceLaws.{part-put}
 use borrow.Author.Needs.{needs}
 use Rattle.copy.proofs.put_bytes.Statement.{statement}
 use Rattle.copy.proofs.put_bytes.Tie as tie
@@ -22,7 +24,7 @@ same-length : tie.Need-same-length
 same-length c = search needs
 
 returns : tie.Need-returns
-returns c = law.bytes-put _ _ _ (c .before .before .copy-bytes .ensures)
+returns c = part-put _ _ _ _ (c .before .before .copy-bytes .ensures) refl
 
 pub put-bytes-spec : {M : Type 1} → statement M
 put-bytes-spec =

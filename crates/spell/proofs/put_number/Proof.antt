@@ -1,4 +1,5 @@
-use Rattle.record.proofs.WriteLaws as law
+-- `put_number` lends the column, and writes it.
+use Rattle.column.proofs.ColumnLaws.{column-put}
 use borrow.Author.Needs.{needs}
 use Rattle.spell.proofs.put_number.Statement.{statement}
 use Rattle.spell.proofs.put_number.Tie as tie
@@ -22,7 +23,7 @@ same-length : tie.Need-same-length
 same-length c = search needs
 
 returns : tie.Need-returns
-returns c = law.column-put _ _ _ _ (c .before .before .before .before .before .pre) (c .before .before .write-number .ensures)
+returns c = column-put _ _ _ _ (c .before .before .before .before .before .pre) (c .before .before .write-number .ensures)
 
 pub put-number-spec : {M : Type 1} → statement M
 put-number-spec =

@@ -1,7 +1,7 @@
 -- `put_blank` lends 34 bytes to the writer of blank records.
 use borrow.Author.Needs.{needs}
 use Rattle.record.proofs.LayoutLaws.{length-blank}
-use Rattle.image.proofs.PutLaws.{part-put}
+use Rattle.slices.proofs.SpliceLaws.{part-put}
 use Rattle.write.proofs.put_blank.Statement.{statement}
 use Rattle.write.proofs.put_blank.Tie as tie
 

@@ -1,7 +1,7 @@
 -- `put_entry` lends 240 bytes to the writer of entries.
 use borrow.Author.Needs.{needs}
 use Rattle.record.proofs.LayoutLaws.{length-entry}
-use Rattle.image.proofs.PutLaws.{part-put}
+use Rattle.slices.proofs.SpliceLaws.{part-put}
 use Rattle.write.proofs.put_entry.Statement.{statement}
 use Rattle.write.proofs.put_entry.Tie as tie
 

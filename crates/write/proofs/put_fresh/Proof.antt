@@ -1,7 +1,7 @@
 -- `put_fresh` lends 240 bytes to the writer of fresh entries.
 use borrow.Author.Needs.{needs}
 use Rattle.record.proofs.LayoutLaws.{length-fresh}
-use Rattle.image.proofs.PutLaws.{part-put}
+use Rattle.slices.proofs.SpliceLaws.{part-put}
 use Rattle.write.proofs.put_fresh.Statement.{statement}
 use Rattle.write.proofs.put_fresh.Tie as tie
 

@@ -1,7 +1,7 @@
 -- `put_header` lends the first 28 bytes to the writer of headers.
 use borrow.Author.Needs.{needs}
 use Rattle.record.proofs.LayoutLaws.{length-header}
-use Rattle.image.proofs.PutLaws.{part-put}
+use Rattle.slices.proofs.SpliceLaws.{part-put}
 use Rattle.write.proofs.put_header.Statement.{statement}
 use Rattle.write.proofs.put_header.Tie as tie
 

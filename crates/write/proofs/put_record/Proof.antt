@@ -1,7 +1,7 @@
 -- `put_record` lends 34 bytes to the writer of records.
 use borrow.Author.Needs.{needs}
 use Rattle.record.proofs.LayoutLaws.{length-record}
-use Rattle.image.proofs.PutLaws.{part-put}
+use Rattle.slices.proofs.SpliceLaws.{part-put}
 use Rattle.write.proofs.put_record.Statement.{statement}
 use Rattle.write.proofs.put_record.Tie as tie
 
