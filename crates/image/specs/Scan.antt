@@ -1,4 +1,4 @@
--- What the scan of an image holds and what it works out: of use to its own functions only. Seen.antt says what it tells the caller.
+-- For proofs only. What the scan of an image holds and what it works out; Seen.antt says what it tells.
 use Prim.Native.Nat.{ℕ, suc, _<_, _≤_}
 use mathlib.Core.Path.{_≡_}
 use mathlib.Core.Bool.{Bool, not, _||_}

@@ -1,4 +1,4 @@
--- What the scan of an image holds: document 01's conditions and epochs as numbers, one for each slot.
+-- For proofs only. What the scan of an image tells: document 01's conditions and epochs as numbers, one for each slot.
 use Prim.Native.Nat.{ℕ}
 use mathlib.Core.Path.{_≡_}
 use mathlib.Core.List.{List}

@@ -15,7 +15,8 @@ use Rattle.column.specs.Column.{column, valueOf}
 use Rattle.column.proofs.ColumnLaws.{length-column}
 use Rattle.record.specs.Layout.{padded, entryBytes}
 use Rattle.record.specs.Meaning.{isEpoch, isIntact, entryEpoch, entryPayload, readEntry}
-use Rattle.record.specs.Judged.{isFront, entryAnswer}
+use Rattle.record.specs.Judged.{entryAnswer}
+use Rattle.record.specs.Seal.{isFront}
 use Rattle.record.specs.declared.EntryState.the-variants.{Intact, Broken}
 use Rattle.record.proofs.LayoutLaws.{length-sealed}
 use Rattle.record.proofs.RecordLaws.{epoch-high}

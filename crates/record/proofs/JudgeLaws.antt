@@ -17,7 +17,7 @@ use Rattle.column.specs.Column.{column}
 use Rattle.column.proofs.ColumnLaws.{length-column}
 use Rattle.record.specs.Layout.{sealed}
 use Rattle.record.specs.Meaning.{isEpoch}
-use Rattle.record.specs.Judged.{sealOf, isFront}
+use Rattle.record.specs.Seal.{sealOf, isFront}
 use Rattle.record.proofs.RecordLaws.{is-epoch}
 
 -- ---- tests that follow one another

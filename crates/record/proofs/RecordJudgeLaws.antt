@@ -15,7 +15,8 @@ use Rattle.column.specs.Column.{column, valueOf}
 use Rattle.column.proofs.ColumnLaws.{length-column}
 use Rattle.record.specs.Layout.{recordBytes, blankRecord}
 use Rattle.record.specs.Meaning.{isEpoch, isGood, recordEpoch, readRecord}
-use Rattle.record.specs.Judged.{sealOf, isFront, recordAnswer}
+use Rattle.record.specs.Judged.{recordAnswer}
+use Rattle.record.specs.Seal.{sealOf, isFront}
 use Rattle.record.specs.declared.RecordState.the-variants.{Good, Blank, Bad}
 use Rattle.record.proofs.RecordLaws.{epoch-high}
 use Rattle.record.proofs.JudgeLaws.{same-front, same-column, same-last, sealed-is}

@@ -12,7 +12,7 @@ use Rattle.checksum.specs.Checksum.{checksumOf}
 use Rattle.column.specs.Column.{column}
 use Rattle.column.proofs.ColumnLaws.{length-column}
 use Rattle.record.specs.Layout.{sealed, fixedWord, headerBytes, recordBytes, blankRecord, padded, entryBytes, freshEntry}
-use Rattle.record.specs.Judged.{sealOf}
+use Rattle.record.specs.Seal.{sealOf}
 use Rattle.record.proofs.LayoutLaws.{length-sealed}
 use Rattle.record.proofs.JudgeLaws.{length-seal, sealed-is}
 

@@ -3,4 +3,5 @@ pub mod Layout
 pub mod Meaning
 pub mod Exactly
 pub mod Judged
+pub mod Seal
 pub mod Claims

@@ -4,7 +4,7 @@ ghost use mathlib.Core.Path.{_≡_};
 ghost use lib.ListN.{length, take};
 ghost use Rattle.slices.specs.Parts.{spliced};
 ghost use Rattle.record.specs.Layout.{headerSize, recordSize, entrySize, maxPayload, headerBytes, recordBytes, blankRecord, entryBytes, freshEntry};
-ghost use Rattle.record.specs.Judged.{sealOf};
+ghost use Rattle.record.specs.Seal.{sealOf};
 use locate::BLANK_SIZE;
 use locate::EDITION_AT;
 use locate::ENTRY_SIZE;

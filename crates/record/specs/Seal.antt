@@ -1,0 +1,17 @@
+-- For proofs only. The tests that the judges are made of.
+use Prim.Native.Nat.{ℕ}
+use mathlib.Core.Bool.{Bool, _&&_}
+use mathlib.Core.List.{[], _∷_, _++_}
+use Rattle.slices.specs.Parts.{Bytes, part}
+use Rattle.slices.specs.Same.{same}
+use Rattle.checksum.specs.Checksum.{checksumOf}
+use Rattle.column.specs.Column.{column}
+use Rattle.record.specs.Meaning.{isEpoch}
+
+-- what follows the bytes b in their header, record or entry: the checksum and a newline
+unfoldable pub sealOf : Bytes → Bytes
+sealOf b = column 11 (checksumOf b) ++ (10 ∷ [])
+
+-- whether a record or an entry begins as the writer's for an index and an epoch does
+unfoldable pub isFront : ℕ → ℕ → Bytes → Bool
+isFront k e b = isEpoch e && (same (part b 0 11) (column 11 e) && same (part b 11 11) (column 11 k))
