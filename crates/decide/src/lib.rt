@@ -5,10 +5,11 @@ ghost use lib.ListN.{getD};
 ghost use Rattle.image.specs.View.{View};
 ghost use Rattle.planner.specs.Setting.{Setting};
 ghost use Rattle.planner.specs.Plan.{clusterRefusal};
-ghost use Rattle.planner.specs.Survey.{Opened, SurveyOf, Planned};
+ghost use Rattle.planner.specs.Survey.{Opened, SurveyIs, PlanIs};
 use crate::rules::first_waiting;
 use crate::rules::mark_truncated;
 use crate::rules::walk_slots;
+use locate::MAX_SLOTS;
 use planner::Plan;
 use planner::Survey;
 use survey::cluster::view_cluster;
@@ -18,7 +19,7 @@ mod rules; // rules.rt: what the replicas answer, and the plan of each slot
 // The plan of whatever views the survey is of. The leader counts from 0.
 pub fn plan_survey(s: Survey, n: usize, leader: usize) -> Plan
     requires { ⌜ (n ≤ 7) × (leader < n) × (getD (s .lengths) leader 0 ≤ 64) ⌝ }
-    ensures { λ r. ⌜ ((S : Setting) (W : ℕ → View) → SurveyOf S W n leader (s .readable) (s .lengths) (s .conditions) (s .epochs) → Planned S W (r .bytes) (r .end) (r .waiting)) ⌝ }
+    ensures { λ r. ⌜ ((S : Setting) (W : ℕ → View) → SurveyIs S W n leader s → PlanIs S W r) ⌝ }
 {
     let length = s.lengths[leader];
     let walk = walk_slots(s.readable, &s.conditions, &s.epochs, n, leader, length);
@@ -36,7 +37,7 @@ pub fn plan_survey(s: Survey, n: usize, leader: usize) -> Plan
 // The plan of a refused cluster.
 fn no_plan() -> Plan {
     Plan {
-        bytes: [0u8; 64],
+        bytes: [0u8; MAX_SLOTS],
         end: 0,
         waiting: 0,
     }

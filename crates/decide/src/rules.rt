@@ -6,14 +6,18 @@ ghost use mathlib.Core.Bool.{cond, not, _&&_};
 ghost use lib.Dec.{eqb, ltb};
 ghost use lib.ListN.{getD};
 ghost use Rattle.search.specs.Search.{count, listed, lowest};
-ghost use Rattle.image.specs.Read.{isWhole};
 ghost use Rattle.planner.specs.Setting.{has};
 ghost use Rattle.planner.specs.Rules.{have, dontHave, mayTruncate, end};
 ghost use Rattle.planner.specs.Plan.{keptByte};
 ghost use Rattle.planner.specs.Sets.{setOf};
 ghost use Rattle.planner.specs.Survey.{conditionFrom, agreesAt, surveySetting, surveyViews, Walked, markedByte};
+use image::condition;
+use locate::MAX_SLOTS;
+use planner::SURVEY_SLOTS;
+use planner::action;
 use survey::sets::contains;
 use survey::sets::insert;
+use view::is_whole;
 
 // Whether replica c answers: it is readable and not the leader.
 fn can_answer(readable: u32, leader: usize, c: usize) -> bool
@@ -26,43 +30,40 @@ fn can_answer(readable: u32, leader: usize, c: usize) -> bool
     contains(readable, c)
 }
 
-// Whether a condition is whole, its record lost or not.
-fn is_whole(condition: u8) -> bool
-    ensures { λ r. ⌜ r ≡ isWhole (conditionFrom condition) ⌝ }
-{
-    if condition == 1 {
-        return true;
-    }
-    condition == 2
-}
-
 // Whether slot k of replica c is used under the leader's epoch there.
-fn agrees_at(conditions: &[u8; 448], epochs: &[u32; 448], leader: usize, c: usize, k: usize) -> bool
+fn agrees_at(
+    conditions: &[u8; SURVEY_SLOTS],
+    epochs: &[u32; SURVEY_SLOTS],
+    leader: usize,
+    c: usize,
+    k: usize,
+) -> bool
     requires { ⌜ (leader < 7) × (c < 7) × (k < 64) ⌝ }
     ensures { λ r. ⌜ r ≡ agreesAt (now (conditions .entry)) (now (epochs .entry)) leader c k ⌝ }
 {
-    if conditions[c * 64 + k] == 0 {
+    if conditions[c * MAX_SLOTS + k] == condition::UNUSED {
         return false;
     }
-    epochs[c * 64 + k] == epochs[leader * 64 + k]
+    epochs[c * MAX_SLOTS + k] == epochs[leader * MAX_SLOTS + k]
 }
 
 // Whether replica c answers have.
 fn has_slot(
     readable: u32,
-    conditions: &[u8; 448],
-    epochs: &[u32; 448],
+    conditions: &[u8; SURVEY_SLOTS],
+    epochs: &[u32; SURVEY_SLOTS],
     leader: usize,
     k: usize,
     c: usize,
 ) -> bool
     requires { ⌜ (leader < 7) × (c < 7) × (k < 64) ⌝ }
-    ensures { λ r. ⌜ ((n l : ℕ) → r ≡ have (surveySetting n leader) (surveyViews l readable (now (conditions .entry)) (now (epochs .entry))) k c) ⌝ }
+    ensures { λ r. ⌜ ((n l : ℕ)
+        → r ≡ have (surveySetting n leader) (surveyViews l readable (now (conditions .entry)) (now (epochs .entry))) k c) ⌝ }
 {
     if !can_answer(readable, leader, c) {
         return false;
     }
-    if !is_whole(conditions[c * 64 + k]) {
+    if !is_whole(conditions[c * MAX_SLOTS + k]) {
         return false;
     }
     agrees_at(conditions, epochs, leader, c, k)
@@ -71,14 +72,15 @@ fn has_slot(
 // Whether replica c answers don't-have.
 fn lacks_slot(
     readable: u32,
-    conditions: &[u8; 448],
-    epochs: &[u32; 448],
+    conditions: &[u8; SURVEY_SLOTS],
+    epochs: &[u32; SURVEY_SLOTS],
     leader: usize,
     k: usize,
     c: usize,
 ) -> bool
     requires { ⌜ (leader < 7) × (c < 7) × (k < 64) ⌝ }
-    ensures { λ r. ⌜ ((n l : ℕ) → r ≡ dontHave (surveySetting n leader) (surveyViews l readable (now (conditions .entry)) (now (epochs .entry))) k c) ⌝ }
+    ensures { λ r. ⌜ ((n l : ℕ)
+        → r ≡ dontHave (surveySetting n leader) (surveyViews l readable (now (conditions .entry)) (now (epochs .entry))) k c) ⌝ }
 {
     if !can_answer(readable, leader, c) {
         return false;
@@ -89,14 +91,15 @@ fn lacks_slot(
 // The set of the replicas that answer don't-have.
 fn lacking(
     readable: u32,
-    conditions: &[u8; 448],
-    epochs: &[u32; 448],
+    conditions: &[u8; SURVEY_SLOTS],
+    epochs: &[u32; SURVEY_SLOTS],
     n: usize,
     leader: usize,
     k: usize,
 ) -> u32
     requires { ⌜ (n ≤ 7) × (leader < 7) × (k < 64) ⌝ }
-    ensures { λ r. ⌜ ((l : ℕ) → r ≡ setOf (dontHave (surveySetting n leader) (surveyViews l readable (now (conditions .entry)) (now (epochs .entry))) k) n) ⌝ }
+    ensures { λ r. ⌜ ((l : ℕ)
+        → r ≡ setOf (dontHave (surveySetting n leader) (surveyViews l readable (now (conditions .entry)) (now (epochs .entry))) k) n) ⌝ }
 {
     let mut set: u32 = 0;
     let mut c: usize = 0;
@@ -114,14 +117,15 @@ fn lacking(
 // Whether a majority of n answered don't-have.
 fn may_truncate(
     readable: u32,
-    conditions: &[u8; 448],
-    epochs: &[u32; 448],
+    conditions: &[u8; SURVEY_SLOTS],
+    epochs: &[u32; SURVEY_SLOTS],
     n: usize,
     leader: usize,
     k: usize,
 ) -> bool
     requires { ⌜ (n ≤ 7) × (leader < 7) × (k < 64) ⌝ }
-    ensures { λ r. ⌜ ((l : ℕ) → r ≡ mayTruncate n (count (dontHave (surveySetting n leader) (surveyViews l readable (now (conditions .entry)) (now (epochs .entry))) k) n)) ⌝ }
+    ensures { λ r. ⌜ ((l : ℕ) → r ≡ mayTruncate n
+        (count (dontHave (surveySetting n leader) (surveyViews l readable (now (conditions .entry)) (now (epochs .entry))) k) n)) ⌝ }
 {
     let set = lacking(readable, conditions, epochs, n, leader, k);
     u32::count_ones(set) as usize >= n / 2 + 1
@@ -131,7 +135,7 @@ fn may_truncate(
 fn kept_byte(condition: u8) -> u8
     ensures { λ r. ⌜ r ≡ keptByte (conditionFrom condition) ⌝ }
 {
-    if condition < 3 {
+    if condition < condition::FAULTY {
         return condition;
     }
     0
@@ -143,14 +147,15 @@ fn faulty_byte(donor: usize, n: usize) -> u8
     ensures { λ r. ⌜ r ≡ cond (ltb donor n) (11 + donor) 3 ⌝ }
 {
     if donor < n {
-        return (11 + donor) as u8;
+        let replica = donor + 1;
+        return action::FETCH + replica as u8;
     }
-    3
+    action::WAIT
 }
 
 // Plan bytes of the slots below the end of the log.
 pub struct Walk {
-    pub bytes: [u8; 64],
+    pub bytes: [u8; MAX_SLOTS],
     pub end: usize,
 }
 
@@ -158,20 +163,22 @@ pub struct Walk {
 // that has the slot intact, or wait.
 pub fn walk_slots<'a>(
     readable: u32,
-    conditions: &'a [u8; 448],
-    epochs: &'a [u32; 448],
+    conditions: &'a [u8; SURVEY_SLOTS],
+    epochs: &'a [u32; SURVEY_SLOTS],
     n: usize,
     leader: usize,
     length: usize,
 ) -> Walk
     requires { ⌜ (n ≤ 7) × (leader < n) × (length ≤ 64) ⌝ }
-    ensures { λ r. ⌜ (r .end ≡ end (surveySetting n leader) (surveyViews length readable (now (conditions .entry)) (now (epochs .entry)))) × Walked (surveySetting n leader) (surveyViews length readable (now (conditions .entry)) (now (epochs .entry))) (r .bytes) (r .end) ⌝ }
+    ensures end { λ r. ⌜ r .end ≡ end (surveySetting n leader) (surveyViews length readable (now (conditions .entry)) (now (epochs .entry))) ⌝ }
+    ensures walked { λ r. ⌜ Walked (surveySetting n leader) (surveyViews length readable (now (conditions .entry)) (now (epochs .entry)))
+        (r .bytes) (r .end) ⌝ }
 {
-    let mut bytes = [0u8; 64];
+    let mut bytes = [0u8; MAX_SLOTS];
     let mut k: usize = 0;
     'slots: while k < length {
-        let condition = conditions[leader * 64 + k];
-        if condition != 3 {
+        let condition = conditions[leader * MAX_SLOTS + k];
+        if condition != condition::FAULTY {
             bytes[k] = kept_byte(condition);
             k += 1;
             continue 'slots;
@@ -200,13 +207,13 @@ fn truncated_byte(k: usize, end: usize) -> u8
     ensures { λ r. ⌜ r ≡ cond (eqb k end) 4 5 ⌝ }
 {
     if k == end {
-        return 4;
+        return action::TRUNCATE;
     }
-    5
+    action::BEHIND
 }
 
 // Marks the used slots from the end of the log on.
-pub fn mark_truncated(bytes: [u8; 64], end: usize, length: usize) -> [u8; 64]
+pub fn mark_truncated(bytes: [u8; MAX_SLOTS], end: usize, length: usize) -> [u8; MAX_SLOTS]
     requires { ⌜ (end ≤ length) × (length ≤ 64) ⌝ }
     ensures { λ r. ⌜ r ≡ listed 64 (markedByte bytes end length) ⌝ }
 {
@@ -220,13 +227,13 @@ pub fn mark_truncated(bytes: [u8; 64], end: usize, length: usize) -> [u8; 64]
 }
 
 // The lowest slot below the end that waits; the end if none does.
-pub fn first_waiting(bytes: &[u8; 64], end: usize) -> usize
+pub fn first_waiting(bytes: &[u8; MAX_SLOTS], end: usize) -> usize
     requires { ⌜ end ≤ 64 ⌝ }
     ensures { λ r. ⌜ r ≡ lowest (λ k. eqb (getD (now (bytes .entry)) k 0) 3) end ⌝ }
 {
     let mut k: usize = 0;
     while k < end {
-        if bytes[k] == 3 {
+        if bytes[k] == action::WAIT {
             return k;
         }
         k += 1;

@@ -1,16 +1,17 @@
 // The planner's call: the plan and the table of a cluster.
-ghost use Prim.Native.Nat.{ℕ, _≤_};
+ghost use Prim.Native.Nat.{ℕ};
 ghost use mathlib.Core.Path.{_≡_};
-ghost use lib.ListN.{length, take};
+ghost use lib.ListN.{length};
 ghost use Rattle.image.specs.View.{View};
 ghost use Rattle.planner.specs.Setting.{Setting, settingOf};
 ghost use Rattle.planner.specs.Rules.{answer};
 ghost use Rattle.planner.specs.Plan.{viewsIn, lentRefusal, planRefusal};
 ghost use Rattle.planner.specs.Answers.{answerAt, planCallAnswer, planLeft, rowsLeft, Outcome};
-use decide::plan_survey;
+use copy::copy_bytes;
+use decide::open_cluster;
+use locate::MAX_REPLICAS;
 use planner::PlanAnswer;
 use planner::ReplicaRow;
-use survey::cluster::view_cluster;
 use tabulate::PlanOutcome;
 use tabulate::fill_rows;
 use tabulate::survey_rows;
@@ -50,23 +51,11 @@ fn refused(refusal: u8) -> PlanOutcome
         readable: 0,
         length: 0,
         last_epoch: 0,
-    }; 7];
+    }; MAX_REPLICAS];
     PlanOutcome {
         answer: PlanAnswer::Refused(refusal),
         count: 0,
         rows,
-    }
-}
-
-// Fills a plan from the bytes of 64 slots.
-fn put_bytes(plan: &mut [u8], bytes: &[u8; 64])
-    requires { ⌜ (length (now plan) ≤ 64) × (length (now bytes) ≡ 64) ⌝ }
-    ensures { λ _. ⌜ now (plan .exit) ≡ take (length (now (plan .entry))) (now (bytes .entry)) ⌝ }
-{
-    let mut k: usize = 0;
-    while k < plan.len() {
-        plan[k] = bytes[k];
-        k += 1;
     }
 }
 
@@ -76,23 +65,23 @@ pub fn plan_bytes(
     cluster: &[u8],
     n: usize,
     m: usize,
-    leader: usize,
+    leading: usize,
     present: u32,
     rows: usize,
 ) -> PlanOutcome
-    ensures { λ r. ⌜ Outcome (planRefusal n m leader present (now (cluster .entry)) (length (now (plan .entry))) rows)
-        (settingOf n m leader present) (viewsIn (settingOf n m leader present) (now (cluster .entry))) (r .answer) (r .count) (r .rows)
-        × (now (plan .exit) ≡ planLeft n m leader present (now (cluster .entry)) (now (plan .entry)) rows) ⌝ }
+    ensures { λ r. ⌜ Outcome (planRefusal n m leading present (now (cluster .entry)) (length (now (plan .entry))) rows)
+        (settingOf n m leading present) (viewsIn (settingOf n m leading present) (now (cluster .entry))) (r .answer) (r .count) (r .rows)
+        × (now (plan .exit) ≡ planLeft n m leading present (now (cluster .entry)) (now (plan .entry)) rows) ⌝ }
 {
-    let view = view_cluster(cluster, n, m, leader, present);
-    let refusal = lent_refusal(view.refusal, n, m, plan.len(), rows);
+    let opening = open_cluster(cluster, n, m, leading, present);
+    let refusal = lent_refusal(opening.refusal, n, m, plan.len(), rows);
     if refusal != 0 {
         return refused(refusal);
     }
-    let survey = view.survey;
-    let found = plan_survey(survey, n, leader - 1);
+    let found = opening.plan;
     let bytes = found.bytes;
-    put_bytes(plan, &bytes);
+    copy_bytes(plan, &bytes[0..m]);
+    let survey = opening.survey;
     let rows = survey_rows(survey.readable, &survey.lengths, &survey.epochs, n);
     let answer = plan_answer(found.end, found.waiting);
     PlanOutcome {
@@ -121,16 +110,16 @@ pub fn plan_cluster(
     cluster: &[u8],
     n: usize,
     m: usize,
-    leader: usize,
+    leading: usize,
     present: u32,
     plan: &mut [u8],
     rows: &mut [ReplicaRow],
 ) -> PlanAnswer
-    ensures { λ r. ⌜ (r ≡ planCallAnswer n m leader present (now (cluster .entry)) (length (now (plan .entry))) (length (now (rows .entry))))
-        × (now (plan .exit) ≡ planLeft n m leader present (now (cluster .entry)) (now (plan .entry)) (length (now (rows .entry))))
-        × (now (rows .exit) ≡ rowsLeft n m leader present (now (cluster .entry)) (length (now (plan .entry))) (now (rows .entry))) ⌝ }
+    ensures { λ r. ⌜ (r ≡ planCallAnswer n m leading present (now (cluster .entry)) (length (now (plan .entry))) (length (now (rows .entry))))
+        × (now (plan .exit) ≡ planLeft n m leading present (now (cluster .entry)) (now (plan .entry)) (length (now (rows .entry))))
+        × (now (rows .exit) ≡ rowsLeft n m leading present (now (cluster .entry)) (length (now (plan .entry))) (now (rows .entry))) ⌝ }
 {
-    let found = plan_bytes(plan, cluster, n, m, leader, present, rows.len());
+    let found = plan_bytes(plan, cluster, n, m, leading, present, rows.len());
     fill_rows(rows, found, outcome_count(found));
     outcome_answer(found)
 }

@@ -1,5 +1,5 @@
 -- What the planner's call answers and leaves.
-use Prim.Native.Nat.{ℕ, suc, _+_, _<_, _≤_}
+use Prim.Native.Nat.{ℕ, suc, _+_, _-_, _<_, _≤_}
 use mathlib.Core.Path.{_≡_, refl, sym, _∙_, subst}
 use mathlib.Core.Bool.{Bool, true, false, cond}
 use mathlib.Core.List.{List}
@@ -7,7 +7,7 @@ use native.Mathlib.Omega.{arith}
 use native.Mathlib.Numerals.{add-one}
 use lib.Dec.{eqb, ltb}
 use lib.ListN.{length, getD, take}
-use lib.Seq.{take-all}
+use lib.Seq.{length-take-le}
 use borrow.Author.Tests.{eqb-true, eq-eqb, ne-eqb, lt-ltb, le-ltb}
 use Rattle.slices.specs.Parts.{Bytes}
 use Rattle.search.specs.Search.{listed}
@@ -72,17 +72,23 @@ module _ (S : Setting) (W : ℕ → View) {n leader readable : ℕ} {lengths con
     rows-are = λ _. rw (o .n-is) (t .1 ∙ rows-are n (S .m) readable W lengths conditions epochs (o .surveyed) (λ c b r. o .logs-fit c));
   }
 
-pub bytes-filled : (S : Setting) (W : ℕ → View) {refusal final waiting : ℕ} {bytes new : List ℕ} (old : List ℕ) → refusal ≡ 0 → Planned S W bytes final waiting → length old ≡ S .m → new ≡ take (length old) bytes
-    → new ≡ unlessRefused refusal (planBytes S W) old
-unfolding unlessRefused
-bytes-filled S W {refusal} old z p l e = rw (eq-eqb refusal 0 z) (e ∙ rw l (p .bytes-are))
+-- the plan's bytes are copied from those of 64 slots
+module _ (n m leader present : ℕ) {W : ℕ → View} {l readable : ℕ} {lengths conditions epochs : List ℕ} (o : SurveyOf (settingOf n m leader present) W n l readable lengths conditions epochs)
+    {final waiting : ℕ} {bytes : List ℕ} (p : Planned (settingOf n m leader present) W bytes final waiting) where
+  pub slots-there : m ≤ length bytes
+  unfolding settingOf
+  slots-there = omega (arith, o .slots-fit, p .sized)
 
-pub put-end : (old bytes plan : List ℕ) (k : ℕ) → length plan ≡ length old → k ≤ length plan → length plan ≤ k → take k plan ≡ take k bytes → plan ≡ take (length old) bytes
-put-end old bytes plan k n h g e = let q : length old ≡ k = omega arith in rw q (sym (take-all k plan g) ∙ e)
+  pub copy-asks : {size : ℕ} → size ≡ m → size ≡ length (take (m - 0) bytes)
+  copy-asks e =
+      let z : m - 0 ≡ m = omega arith in
+      rw z (e ∙ sym (length-take-le m bytes slots-there))
 
-pub plan-fits : (n m leader present : ℕ) {W : ℕ → View} {l readable len : ℕ} {lengths conditions epochs : List ℕ} → SurveyOf (settingOf n m leader present) W n l readable lengths conditions epochs → len ≡ m → len ≤ 64
-unfolding settingOf
-plan-fits n m leader present o e = omega (arith, o .slots-fit)
+  pub bytes-filled : {refusal : ℕ} {new : List ℕ} (old : List ℕ) → refusal ≡ 0 → new ≡ take (m - 0) bytes → new ≡ unlessRefused refusal (planBytes (settingOf n m leader present) W) old
+  unfolding unlessRefused settingOf
+  bytes-filled {refusal} old z e =
+      let k : m - 0 ≡ m = omega arith in
+      rw (eq-eqb refusal 0 z) (e ∙ rw k (p .bytes-are))
 
 pub outcome-at : {r q : ℕ} {S : Setting} {W : ℕ → View} {a : PlanAnswer} {count : ℕ} {rows : List ReplicaRow} → r ≡ q → Outcome r S W a count rows → Outcome q S W a count rows
 outcome-at {r} {q} {S} {W} {a} {count} {rows} e o = subst (λ (x : ℕ). Outcome x S W a count rows) e o

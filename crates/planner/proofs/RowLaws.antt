@@ -8,7 +8,7 @@ use native.Mathlib.Numerals.{add-one}
 use lib.Dec.{eqb}
 use lib.ListN.{length, getD, set, take}
 use lib.Seq.{take-suc-set}
-use borrow.Author.Tests.{eq-eqb, ne-eqb, eqb-false}
+use borrow.Author.Tests.{eqb-false}
 use Rattle.search.specs.Search.{listed, oneIf}
 use Rattle.search.proofs.ListedLaws.{listed-cong}
 use Rattle.image.specs.View.{View}
@@ -16,14 +16,6 @@ use Rattle.planner.specs.Setting.{has}
 use Rattle.planner.specs.Plan.{rowLength, rowEpoch}
 use Rattle.planner.specs.Survey.{Surveyed}
 use Rattle.planner.specs.Answers.{rowOf, noRow, lastEpoch, numberRow}
-
-pub last-none : (epochs : List ℕ) (c l : ℕ) → l ≡ 0 → 0 ≡ lastEpoch epochs c l
-unfolding lastEpoch
-last-none epochs c l e = rw (eq-eqb l 0 e) refl
-
-pub last-some : (epochs : List ℕ) (c l : ℕ) → (l ≡ 0 → ⊥) → getD epochs (c * 64 + l - 1) 0 ≡ lastEpoch epochs c l
-unfolding lastEpoch
-last-some epochs c l e = rw (ne-eqb l 0 e) refl
 
 module _ (readable : ℕ) (lengths epochs : List ℕ) (c : ℕ) where
   pub row-off : has readable c ≡ false → noRow ≡ numberRow readable lengths epochs c

@@ -37,26 +37,27 @@ pub start-is : (m c : ℕ) → (28 + 274 * m) * c ≡ imageAt m c
 start-is m c = ap (λ (z : ℕ). z * c) (size-eq m) ∙ sym (image-at m c)
 
 module _ (n m c : ℕ) (b : Bytes) (h : c < n) (len : length b ≡ imageAt m n) where
-  pub image-there : (28 + 274 * m) * c + (28 + 274 * m) ≤ length b
-  image-there = omega (arith, image-fits n m c h, start-is m c, size-eq m, len)
+  pub image-there : imageAt m c + imageSize m ≤ length b
+  image-there = omega (arith, image-fits n m c h, len)
 
-  part-is : take ((28 + 274 * m) * c + (28 + 274 * m) - (28 + 274 * m) * c) (drop ((28 + 274 * m) * c) b) ≡ imagePart m b c
-  unfolding imagePart
-  part-is = part-lent b ((28 + 274 * m) * c) (28 + 274 * m) ∙ rw (start-is, size-eq) refl
+  module _ {start size : ℕ} (s : start ≡ imageAt m c) (z : size ≡ imageSize m) where
+    part-is : take (start + size - start) (drop start b) ≡ imagePart m b c
+    unfolding imagePart
+    part-is = part-lent b start size ∙ rw (s, z) refl
 
-  pub lent-sized : length (take ((28 + 274 * m) * c + (28 + 274 * m) - (28 + 274 * m) * c) (drop ((28 + 274 * m) * c) b)) ≡ imageSize m
-  unfolding imagePart
-  lent-sized = ap length part-is ∙ length-part b (imageAt m c) (imageSize m) (omega (arith, image-fits n m c h, len))
+    pub lent-sized : length (take (start + size - start) (drop start b)) ≡ imageSize m
+    unfolding imagePart
+    lent-sized = ap length part-is ∙ length-part b (imageAt m c) (imageSize m) image-there
 
-  lent-is : decodeImage (c + 1) n m (take ((28 + 274 * m) * c + (28 + 274 * m) - (28 + 274 * m) * c) (drop ((28 + 274 * m) * c) b)) ≡ decode n m b c
-  unfolding decode
-  lent-is = rw (part-is, add-one) refl
+    lent-is : decodeImage (c + 1) n m (take (start + size - start) (drop start b)) ≡ decode n m b c
+    unfolding decode
+    lent-is = rw (part-is, add-one) refl
 
-  pub view-there : {r l : ℕ} {cs es : List ℕ}
-      → (r ≡ imageRefusal m (decodeImage (c + 1) n m (take ((28 + 274 * m) * c + (28 + 274 * m) - (28 + 274 * m) * c) (drop ((28 + 274 * m) * c) b))))
-      × (r ≡ 0 → Seen m (decodeImage (c + 1) n m (take ((28 + 274 * m) * c + (28 + 274 * m) - (28 + 274 * m) * c) (drop ((28 + 274 * m) * c) b))) l cs es)
-      → (r ≡ imageRefusal m (decode n m b c)) × (r ≡ 0 → Seen m (decode n m b c) l cs es)
-  view-there {r} {l} {cs} {es} p = subst (λ (i : Image). (r ≡ imageRefusal m i) × (r ≡ 0 → Seen m i l cs es)) lent-is p
+    pub view-there : {r l : ℕ} {cs es : List ℕ}
+        → (r ≡ imageRefusal m (decodeImage (c + 1) n m (take (start + size - start) (drop start b))))
+        × (r ≡ 0 → Seen m (decodeImage (c + 1) n m (take (start + size - start) (drop start b))) l cs es)
+        → (r ≡ imageRefusal m (decode n m b c)) × (r ≡ 0 → Seen m (decode n m b c) l cs es)
+    view-there {r} {l} {cs} {es} p = subst (λ (i : Image). (r ≡ imageRefusal m i) × (r ≡ 0 → Seen m i l cs es)) lent-is p
 
 pub size-le : (n : ℕ) → isSize n ≡ true → n ≤ 7
 unfolding isSize

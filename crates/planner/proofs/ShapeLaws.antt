@@ -14,8 +14,8 @@ use Rattle.image.proofs.RefusalLaws.{refuse-zero, else-zero-l, else-zero-r}
 use Rattle.planner.specs.Plan.{shapeRefusal}
 use Rattle.planner.proofs.SeenLaws.{start-is}
 
-pub cluster-fits : (n m : ℕ) → n ≤ 7 → m ≤ 64 → (28 + 274 * m) * n ≤ 122948
-cluster-fits n m h g = omega (arith, mul-le-mul {n₁ = 28 + 274 * m} {m₁ = n} {n₂ = 17564} {m₂ = 7} (omega arith) h)
+pub cluster-fits : (n m : ℕ) → n ≤ 7 → m ≤ 64 → imageAt m n ≤ 122948
+cluster-fits n m h g = omega (arith, start-is m n, mul-le-mul {n₁ = 28 + 274 * m} {m₁ = n} {n₂ = 17564} {m₂ = 7} (omega arith) h)
 
 shifted : (n present : ℕ) → (present / 2 ^ n ≡ 0 → ⊥) → ltb present (2 ^ n) ≡ false
 shifted n present e = go (ltb present (2 ^ n)) refl
@@ -38,14 +38,14 @@ module _ (n m present size : ℕ) where
     unfolding shapeRefusal refuse _else_
     shape-size e = rw (s, e) refl
 
-    module _ (z : isSize n ≡ true) where
-      pub shape-bytes : (size ≡ (28 + 274 * m) * n → ⊥) → 3 ≡ shapeRefusal n m present size
+    module _ (z : isSize n ≡ true) {all : ℕ} (a : all ≡ imageAt m n) where
+      pub shape-bytes : (size ≡ all → ⊥) → 3 ≡ shapeRefusal n m present size
       unfolding shapeRefusal refuse _else_
-      shape-bytes e = rw (s, z, ne-eqb size (imageAt m n) (λ q. e (q ∙ sym (start-is m n)))) refl
+      shape-bytes e = rw (s, z, ne-eqb size (imageAt m n) (λ q. e (q ∙ sym a))) refl
 
-      module _ (b : size ≡ (28 + 274 * m) * n) where
+      module _ (b : size ≡ all) where
         sized : eqb size (imageAt m n) ≡ true
-        sized = eq-eqb size (imageAt m n) (b ∙ start-is m n)
+        sized = eq-eqb size (imageAt m n) (b ∙ a)
 
         pub shape-set : (present / 2 ^ n ≡ 0 → ⊥) → 11 ≡ shapeRefusal n m present size
         unfolding shapeRefusal refuse _else_

@@ -1,7 +1,7 @@
 -- What the replicas answer, read from a survey's numbers.
 use Prim.Native.Nat.{ℕ, zero, suc, _+_, _*_, _≤_}
 use mathlib.Core.Path.{_≡_, refl}
-use mathlib.Core.Bool.{true, false, not, _&&_}
+use mathlib.Core.Bool.{true, false, not, _&&_, _||_}
 use mathlib.Core.List.{List}
 use native.Mathlib.Omega.{arith}
 use lib.Dec.{eqb}
@@ -19,17 +19,13 @@ use Rattle.planner.specs.Survey.{conditionFrom, surveySetting, surveyVie
 above : (x b : ℕ) → b ≤ 3 → eqb (suc (suc (suc (suc x)))) b ≡ false
 above x b h = ne-eqb (suc (suc (suc (suc x)))) b (λ e. omega arith)
 
-pub whole-one : (x : ℕ) → x ≡ 1 → isWhole (conditionFrom x) ≡ true
+pub whole-number : (x : ℕ) → isWhole (conditionFrom x) ≡ (eqb x 1 || eqb x 2)
 unfolding isWhole conditionFrom
-whole-one x e = rw e refl
-
-pub whole-else : (x : ℕ) → (x ≡ 1 → ⊥) → isWhole (conditionFrom x) ≡ eqb x 2
-unfolding isWhole conditionFrom
-whole-else zero e = refl
-whole-else (suc zero) e = absurd (e refl)
-whole-else (suc (suc zero)) e = refl
-whole-else (suc (suc (suc zero))) e = refl
-whole-else (suc (suc (suc (suc x)))) e = rw (above x 2 (omega arith)) refl
+whole-number zero = refl
+whole-number (suc zero) = refl
+whole-number (suc (suc zero)) = refl
+whole-number (suc (suc (suc zero))) = refl
+whole-number (suc (suc (suc (suc x)))) = rw (above x 1 (omega arith), above x 2 (omega arith)) refl
 
 pub used-number : (x : ℕ) → isUsed (conditionFrom x) ≡ not (eqb x 0)
 unfolding isUsed conditionFrom

@@ -50,6 +50,8 @@ abbrev pub rowsLeft : ℕ → ℕ → ℕ → ℕ → Bytes → ℕ → List Rep
 rowsLeft n m leader present b plan rows =
     unlessRefused (planRefusal n m leader present b plan (length rows)) (rowsOf (settingOf n m leader present) (viewsIn (settingOf n m leader present) b)) rows
 
+-- ---- for proofs only: what is between the survey's numbers and the table
+
 unfoldable pub noRow : ReplicaRow
 noRow = record { readable = 0; length = 0; «last_epoch» = 0 }
 

@@ -1,4 +1,4 @@
--- Sets of replicas as words: bit c, worth 2 to the power c, stands for replica c (`has` of Setting).
+-- For proofs only. Sets of replicas as words: bit c, worth 2 to the power c, stands for replica c (`has` of Setting).
 use Prim.Native.Nat.{ℕ, zero, suc, _+_, _*_, _^_}
 use mathlib.Core.Bool.{Bool, cond}
 use Rattle.search.specs.Search.{oneIf}

@@ -3,6 +3,8 @@
 ghost use Rattle.planner.specs.AskingClaim.{AskingClaim};
 ghost use Rattle.planner.specs.PlanRows.{PlanRows};
 
+pub mod action; // action.rt: the plan's bytes
+
 // Ready with the final length, waiting with the number of the lowest waiting slot, or the refusal.
 pub enum PlanAnswer {
     Ready(usize),
@@ -18,13 +20,16 @@ pub struct ReplicaRow {
     pub last_epoch: u32,
 }
 
+// A survey has room for 64 slots of each of 7 replicas.
+pub const SURVEY_SLOTS: usize = 448;
+
 // The readable set; and for each readable replica the length of its log, and the condition's number and the epoch of each
 // slot. Slot k of replica c stands at c * 64 + k.
 pub struct Survey {
     pub readable: u32,
     pub lengths: [usize; 7],
-    pub conditions: [u8; 448],
-    pub epochs: [u32; 448],
+    pub conditions: [u8; SURVEY_SLOTS],
+    pub epochs: [u32; SURVEY_SLOTS],
 }
 
 // The leader's plan: a byte for each slot, the end of its log, and the lowest slot below that waits (the end if none does).

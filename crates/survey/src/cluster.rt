@@ -6,9 +6,13 @@ ghost use mathlib.Core.Bool.{not, _&&_};
 ghost use Rattle.image.specs.Refusal.{refuse};
 ghost use Rattle.image.specs.View.{isReplica};
 ghost use Rattle.planner.specs.Plan.{viewsIn, shapeRefusal, clusterRefusal};
-ghost use Rattle.planner.specs.Survey.{SurveyOf};
+ghost use Rattle.planner.specs.Survey.{SurveyIs};
 use crate::sets::contains;
 use crate::survey_cluster;
+use locate::MAX_REPLICAS;
+use locate::MAX_SLOTS;
+use locate::image_at;
+use planner::SURVEY_SLOTS;
 use planner::Survey;
 
 // A cluster's refusal, 0 if it has none; and if it has none, its survey.
@@ -24,13 +28,13 @@ fn shape_refusal(size: usize, n: usize, m: usize, present: u32) -> u8
     if m < 1 {
         return 1;
     }
-    if 64 < m {
+    if MAX_SLOTS < m {
         return 1;
     }
     if !view::is_size(n) {
         return 2;
     }
-    if size != (28 + 274 * m) * n {
+    if size != image_at(m, n) {
         return 3;
     }
     if (present >> n) != 0 {
@@ -40,17 +44,17 @@ fn shape_refusal(size: usize, n: usize, m: usize, present: u32) -> u8
 }
 
 // Refusal 12: the leader's number, from 1, is out of range, or the replica is not readable.
-fn leader_refusal(readable: u32, n: usize, leader: usize) -> u8
+fn leader_refusal(readable: u32, n: usize, leading: usize) -> u8
     requires { ⌜ n ≤ 7 ⌝ }
-    ensures { λ r. ⌜ r ≡ refuse 12 (not (isReplica n leader && has readable (pred leader))) ⌝ }
+    ensures { λ r. ⌜ r ≡ refuse 12 (not (isReplica n leading && has readable (pred leading))) ⌝ }
 {
-    if leader < 1 {
+    if leading < 1 {
         return 12;
     }
-    if n < leader {
+    if n < leading {
         return 12;
     }
-    if !contains(readable, leader - 1) {
+    if !contains(readable, leading - 1) {
         return 12;
     }
     0
@@ -60,16 +64,17 @@ fn leader_refusal(readable: u32, n: usize, leader: usize) -> u8
 fn no_survey() -> Survey {
     Survey {
         readable: 0,
-        lengths: [0usize; 7],
-        conditions: [0u8; 448],
-        epochs: [0u32; 448],
+        lengths: [0usize; MAX_REPLICAS],
+        conditions: [0u8; SURVEY_SLOTS],
+        epochs: [0u32; SURVEY_SLOTS],
     }
 }
 
 // Judges what a call names, and surveys the cluster if it can be read.
-pub fn view_cluster(cluster: &[u8], n: usize, m: usize, leader: usize, present: u32) -> ClusterView
-    ensures { λ r. ⌜ (r .refusal ≡ clusterRefusal n m leader present (now (cluster .entry)))
-        × (r .refusal ≡ 0 → SurveyOf (settingOf n m leader present) (viewsIn (settingOf n m leader present) (now (cluster .entry))) n (leader - 1) (r .survey .readable) (r .survey .lengths) (r .survey .conditions) (r .survey .epochs)) ⌝ }
+pub fn view_cluster(cluster: &[u8], n: usize, m: usize, leading: usize, present: u32) -> ClusterView
+    ensures refusal { λ r. ⌜ r .refusal ≡ clusterRefusal n m leading present (now (cluster .entry)) ⌝ }
+    ensures survey { λ r. ⌜ (r .refusal ≡ 0
+        → SurveyIs (settingOf n m leading present) (viewsIn (settingOf n m leading present) (now (cluster .entry))) n (leading - 1) (r .survey)) ⌝ }
 {
     let refusal = shape_refusal(cluster.len(), n, m, present);
     if refusal != 0 {
@@ -77,6 +82,6 @@ pub fn view_cluster(cluster: &[u8], n: usize, m: usize, leader: usize, present: 
         return ClusterView { refusal, survey };
     }
     let survey = survey_cluster(cluster, n, m, present);
-    let refusal = leader_refusal(survey.readable, n, leader);
+    let refusal = leader_refusal(survey.readable, n, leading);
     ClusterView { refusal, survey }
 }

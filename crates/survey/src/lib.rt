@@ -11,6 +11,11 @@ ghost use Rattle.planner.specs.Plan.{viewsIn};
 ghost use Rattle.planner.specs.Survey.{Surveyed, Copied};
 use crate::sets::contains;
 use crate::sets::insert;
+use locate::MAX_REPLICAS;
+use locate::MAX_SLOTS;
+use locate::image_at;
+use locate::image_size;
+use planner::SURVEY_SLOTS;
 use planner::Survey;
 use view::ImageView;
 use view::view_image;
@@ -21,35 +26,29 @@ pub mod cluster; // cluster.rt: a cluster's refusals, and its survey
 // What is seen of the image of replica c.
 fn view_replica(cluster: &[u8], n: usize, m: usize, c: usize) -> ImageView
     requires { ⌜ (n ≤ 7) × (c < n) × (isSlots m ≡ true) × (length (now cluster) ≡ imageAt m n) ⌝ }
-    ensures { λ r. ⌜ (r .refusal ≡ imageRefusal m (decode n m (now (cluster .entry)) c))
-        × (r .refusal ≡ 0 → Seen m (decode n m (now (cluster .entry)) c) (r .length) (r .conditions) (r .epochs)) ⌝ }
+    ensures refusal { λ r. ⌜ r .refusal ≡ imageRefusal m (decode n m (now (cluster .entry)) c) ⌝ }
+    ensures seen { λ r. ⌜ (r .refusal ≡ 0 → Seen m (decode n m (now (cluster .entry)) c) (r .length) (r .conditions) (r .epochs)) ⌝ }
 {
-    let size = 28 + 274 * m;
-    let start = size * c;
-    let end = start + size;
+    let start = image_at(m, c);
+    let end = start + image_size(m);
     view_image(&cluster[start..end], c + 1, n, m)
 }
 
-// Copies the conditions of replica c to its slots.
-fn copy_conditions(all: &mut [u8; 448], c: usize, seen: &[u8; 64])
-    requires { ⌜ (c < 7) × (length (now all) ≡ 448) ⌝ }
-    ensures { λ _. ⌜ Copied c (now (all .entry)) (now (seen .entry)) (now (all .exit)) 64 ⌝ }
+// Copies what is seen of replica c to its slots.
+fn copy_slots(
+    conditions: &mut [u8; SURVEY_SLOTS],
+    epochs: &mut [u32; SURVEY_SLOTS],
+    c: usize,
+    view: ImageView,
+)
+    requires { ⌜ (c < 7) × (length (now conditions) ≡ 448) × (length (now epochs) ≡ 448) ⌝ }
+    ensures conditions { λ _. ⌜ Copied c (now (conditions .entry)) (view .conditions) (now (conditions .exit)) 64 ⌝ }
+    ensures epochs { λ _. ⌜ Copied c (now (epochs .entry)) (view .epochs) (now (epochs .exit)) 64 ⌝ }
 {
     let mut k: usize = 0;
-    while k < 64 {
-        all[c * 64 + k] = seen[k];
-        k += 1;
-    }
-}
-
-// Copies the epochs of replica c to its slots.
-fn copy_epochs(all: &mut [u32; 448], c: usize, seen: &[u32; 64])
-    requires { ⌜ (c < 7) × (length (now all) ≡ 448) ⌝ }
-    ensures { λ _. ⌜ Copied c (now (all .entry)) (now (seen .entry)) (now (all .exit)) 64 ⌝ }
-{
-    let mut k: usize = 0;
-    while k < 64 {
-        all[c * 64 + k] = seen[k];
+    while k < MAX_SLOTS {
+        conditions[c * MAX_SLOTS + k] = view.conditions[k];
+        epochs[c * MAX_SLOTS + k] = view.epochs[k];
         k += 1;
     }
 }
@@ -57,12 +56,13 @@ fn copy_epochs(all: &mut [u32; 448], c: usize, seen: &[u32; 64])
 // Surveys the present replicas of a cluster. An image that is refused leaves its replica unreadable.
 pub fn survey_cluster(cluster: &[u8], n: usize, m: usize, present: u32) -> Survey
     requires { ⌜ (isSize n ≡ true) × (isSlots m ≡ true) × (length (now cluster) ≡ imageAt m n) ⌝ }
-    ensures { λ r. ⌜ ((leader : ℕ) → Surveyed n m (viewsIn (settingOf n m leader present) (now (cluster .entry))) (r .readable) (r .lengths) (r .conditions) (r .epochs)) ⌝ }
+    ensures { λ r. ⌜ ((leading : ℕ) → Surveyed n m (viewsIn (settingOf n m leading present) (now (cluster .entry)))
+        (r .readable) (r .lengths) (r .conditions) (r .epochs)) ⌝ }
 {
     let mut readable: u32 = 0;
-    let mut lengths = [0usize; 7];
-    let mut conditions = [0u8; 448];
-    let mut epochs = [0u32; 448];
+    let mut lengths = [0usize; MAX_REPLICAS];
+    let mut conditions = [0u8; SURVEY_SLOTS];
+    let mut epochs = [0u32; SURVEY_SLOTS];
     let mut c: usize = 0;
     'replicas: while c < n {
         if !contains(present, c) {
@@ -76,8 +76,7 @@ pub fn survey_cluster(cluster: &[u8], n: usize, m: usize, present: u32) -> Surve
         }
         readable = insert(readable, c);
         lengths[c] = view.length;
-        copy_conditions(&mut conditions, c, &view.conditions);
-        copy_epochs(&mut epochs, c, &view.epochs);
+        copy_slots(&mut conditions, &mut epochs, c, view);
         c += 1;
     }
     Survey {

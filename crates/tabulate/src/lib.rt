@@ -4,35 +4,28 @@ ghost use mathlib.Core.Path.{_≡_};
 ghost use mathlib.Core.Bool.{true};
 ghost use lib.ListN.{length, getD, take};
 ghost use Rattle.planner.specs.Setting.{has};
-ghost use Rattle.planner.specs.Answers.{lastEpoch, numberRow, noRow, frontRows};
+ghost use Rattle.planner.specs.Answers.{numberRow, noRow, frontRows};
 ghost use Rattle.search.specs.Search.{listed};
+use locate::MAX_REPLICAS;
+use locate::MAX_SLOTS;
 use planner::PlanAnswer;
 use planner::ReplicaRow;
+use planner::SURVEY_SLOTS;
 use survey::sets::contains;
+use view::last_epoch;
 
 // What the planner found: its answer, how many rows there are to fill (none if it refused), and the rows.
 pub struct PlanOutcome {
     pub answer: PlanAnswer,
     pub count: usize,
-    pub rows: [ReplicaRow; 7],
-}
-
-// The epoch of the last used slot of replica c; 0 if its log is empty.
-fn last_epoch(epochs: &[u32; 448], c: usize, length: usize) -> u32
-    requires { ⌜ (c < 7) × (length ≤ 64) ⌝ }
-    ensures { λ r. ⌜ r ≡ lastEpoch (now (epochs .entry)) c length ⌝ }
-{
-    if length == 0 {
-        return 0;
-    }
-    epochs[c * 64 + length - 1]
+    pub rows: [ReplicaRow; MAX_REPLICAS],
 }
 
 // The row of replica c.
 fn replica_row<'a>(
     readable: u32,
-    lengths: &'a [usize; 7],
-    epochs: &'a [u32; 448],
+    lengths: &'a [usize; MAX_REPLICAS],
+    epochs: &'a [u32; SURVEY_SLOTS],
     c: usize,
 ) -> ReplicaRow
     requires { ⌜ (c < 7) × (has readable c ≡ true → getD (now lengths) c 0 ≤ 64) ⌝ }
@@ -46,7 +39,7 @@ fn replica_row<'a>(
         };
     }
     let length = lengths[c];
-    let last_epoch = last_epoch(epochs, c, length);
+    let last_epoch = last_epoch(epochs, c * MAX_SLOTS, length);
     ReplicaRow {
         readable: 1,
         length: length as u32,
@@ -57,18 +50,19 @@ fn replica_row<'a>(
 // The rows of the first n replicas.
 pub fn survey_rows<'a>(
     readable: u32,
-    lengths: &'a [usize; 7],
-    epochs: &'a [u32; 448],
+    lengths: &'a [usize; MAX_REPLICAS],
+    epochs: &'a [u32; SURVEY_SLOTS],
     n: usize,
-) -> [ReplicaRow; 7]
+) -> [ReplicaRow; MAX_REPLICAS]
     requires { ⌜ (n ≤ 7) × ((c : ℕ) → c < n → has readable c ≡ true → getD (now lengths) c 0 ≤ 64) ⌝ }
-    ensures { λ r. ⌜ (length r ≡ 7) × (take n r ≡ listed n (numberRow readable (now (lengths .entry)) (now (epochs .entry)))) ⌝ }
+    ensures sized { λ r. ⌜ length r ≡ 7 ⌝ }
+    ensures rows { λ r. ⌜ take n r ≡ listed n (numberRow readable (now (lengths .entry)) (now (epochs .entry))) ⌝ }
 {
     let mut rows = [ReplicaRow {
         readable: 0,
         length: 0,
         last_epoch: 0,
-    }; 7];
+    }; MAX_REPLICAS];
     let mut c: usize = 0;
     while c < n {
         rows[c] = replica_row(readable, lengths, epochs, c);

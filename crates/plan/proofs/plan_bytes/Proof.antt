@@ -1,14 +1,13 @@
 use mathlib.Core.Path.{sym, _∙_}
 use Rattle.planner.specs.Setting.{settingOf}
-use Rattle.planner.proofs.CallLaws.{leader-first, survey-asks}
 use Rattle.planner.proofs.LentLaws.{refusal-is, lent-zero, lent-bytes}
-use Rattle.planner.proofs.OutcomeLaws.{outcome-at, left-alone, rows-ask, planned-outcome, bytes-filled, plan-fits}
+use Rattle.planner.proofs.OutcomeLaws.{outcome-at, left-alone, rows-ask, planned-outcome, slots-there, copy-asks, bytes-filled}
 use borrow.Author.Needs.{needs}
 use Rattle.plan.proofs.plan_bytes.Statement.{statement}
 use Rattle.plan.proofs.plan_bytes.Tie as tie
 
-view-cluster-requires : tie.Need-view-cluster-requires
-view-cluster-requires c κs = search needs
+open-cluster-requires : tie.Need-open-cluster-requires
+open-cluster-requires c κs = search needs
 
 lent-refusal-requires : tie.Need-lent-refusal-requires
 lent-refusal-requires c κs = search needs
@@ -17,19 +16,34 @@ refused-requires : tie.Need-refused-requires
 refused-requires c κs = search needs
 
 returns : tie.Need-returns
-returns c = (outcome-at (refusal-is _ _ _ _ _ _ _ (c .before .before .lent-refusal .ensures) (c .before .before .before .view-cluster .ensures .0)) (c .refused .ensures _ _), left-alone _ _ _ (λ z. c .before .if1 .taken ((refusal-is _ _ _ _ _ _ _ (c .before .before .lent-refusal .ensures) (c .before .before .before .view-cluster .ensures .0)) ∙ z)))
+returns c =
+    let d = c .before in
+    let r = refusal-is _ _ _ _ _ _ _ (d .before .lent-refusal .ensures) (d .before .before .open-cluster .ensures .0) in
+    (outcome-at r (c .refused .ensures _ _), left-alone _ _ _ (λ z. d .if1 .taken (r ∙ z)))
 
-sub-plan-survey : tie.Need-sub-plan-survey
-sub-plan-survey c = leader-first _ _ _ _ _ (sym (c .before .before .before .view-cluster .ensures .0) ∙ (lent-zero _ _ _ _ _ (c .before .before .lent-refusal .ensures) (c .before .if1 .left)))
+sub-copy-bytes : tie.Need-sub-copy-bytes
+sub-copy-bytes c = search needs
 
-plan-survey-requires : tie.Need-plan-survey-requires
-plan-survey-requires c κs = survey-asks (c .before .before .before .view-cluster .ensures .1 (lent-zero _ _ _ _ _ (c .before .before .lent-refusal .ensures) (c .before .if1 .left)))
+part-copy-bytes-start : tie.Need-part-copy-bytes-start
+part-copy-bytes-start c = search needs
 
-put-bytes-requires : tie.Need-put-bytes-requires
-put-bytes-requires c κs = (plan-fits _ _ _ _ (c .before .before .before .before .before .before .before .view-cluster .ensures .1 (lent-zero _ _ _ _ _ (c .before .before .before .before .before .before .lent-refusal .ensures) (c .before .before .before .before .before .if1 .left))) (lent-bytes _ _ _ _ _ (c .before .before .before .before .before .before .lent-refusal .ensures) (c .before .before .before .before .before .if1 .left)), (c .before .before .before .plan-survey .ensures _ _ (c .before .before .before .before .before .before .before .view-cluster .ensures .1 (lent-zero _ _ _ _ _ (c .before .before .before .before .before .before .lent-refusal .ensures) (c .before .before .before .before .before .if1 .left)))) .sized)
+part-copy-bytes-end : tie.Need-part-copy-bytes-end
+part-copy-bytes-end c =
+    let d = c .before .before .before .before in
+    let o = d .before .before .open-cluster .ensures .1 (lent-zero _ _ _ _ _ (d .before .lent-refusal .ensures) (d .if1 .left)) in
+    slots-there _ _ _ _ (o .survey-is) (o .plan-is)
+
+copy-bytes-requires : tie.Need-copy-bytes-requires
+copy-bytes-requires c κs =
+    let d = c .before .before .before .before .before in
+    let o = d .before .before .open-cluster .ensures .1 (lent-zero _ _ _ _ _ (d .before .lent-refusal .ensures) (d .if1 .left)) in
+    copy-asks _ _ _ _ (o .survey-is) (o .plan-is) (lent-bytes _ _ _ _ _ (d .before .lent-refusal .ensures) (d .if1 .left))
 
 survey-rows-requires : tie.Need-survey-rows-requires
-survey-rows-requires c κs = rows-ask _ _ (c .before .before .before .before .before .before .before .before .before .before .before .before .before .view-cluster .ensures .1 (lent-zero _ _ _ _ _ (c .before .before .before .before .before .before .before .before .before .before .before .before .lent-refusal .ensures) (c .before .before .before .before .before .before .before .before .before .before .before .if1 .left)))
+survey-rows-requires c κs =
+    let d = c .before .before .before .before .before .before .before .before .before .before .before .before in
+    let o = d .before .before .open-cluster .ensures .1 (lent-zero _ _ _ _ _ (d .before .lent-refusal .ensures) (d .if1 .left)) in
+    rows-ask _ _ (o .survey-is)
 
 plan-answer-requires : tie.Need-plan-answer-requires
 plan-answer-requires c κs = search needs
@@ -39,19 +53,25 @@ same-length c = search needs
 
 returns-2 : tie.Need-returns-2
 unfolding settingOf
-returns-2 c = (planned-outcome _ _ (c .before .before .before .before .before .before .before .before .before .before .before .before .before .before .before .view-cluster .ensures .1 (lent-zero _ _ _ _ _ (c .before .before .before .before .before .before .before .before .before .before .before .before .before .before .lent-refusal .ensures) (c .before .before .before .before .before .before .before .before .before .before .before .before .before .if1 .left))) (sym (refusal-is _ _ _ _ _ _ _ (c .before .before .before .before .before .before .before .before .before .before .before .before .before .before .lent-refusal .ensures) (c .before .before .before .before .before .before .before .before .before .before .before .before .before .before .before .view-cluster .ensures .0)) ∙ c .before .before .before .before .before .before .before .before .before .before .before .before .before .if1 .left) (c .before .before .before .before .before .before .before .before .before .before .before .plan-survey .ensures _ _ (c .before .before .before .before .before .before .before .before .before .before .before .before .before .before .before .view-cluster .ensures .1 (lent-zero _ _ _ _ _ (c .before .before .before .before .before .before .before .before .before .before .before .before .before .before .lent-refusal .ensures) (c .before .before .before .before .before .before .before .before .before .before .before .before .before .if1 .left)))) (c .plan-answer .ensures) (c .before .survey-rows .ensures), bytes-filled _ _ _ (sym (refusal-is _ _ _ _ _ _ _ (c .before .before .before .before .before .before .before .before .before .before .before .before .before .before .lent-refusal .ensures) (c .before .before .before .before .before .before .before .before .before .before .before .before .before .before .before .view-cluster .ensures .0)) ∙ c .before .before .before .before .before .before .before .before .before .before .before .before .before .if1 .left) (c .before .before .before .before .before .before .before .before .before .before .before .plan-survey .ensures _ _ (c .before .before .before .before .before .before .before .before .before .before .before .before .before .before .before .view-cluster .ensures .1 (lent-zero _ _ _ _ _ (c .before .before .before .before .before .before .before .before .before .before .before .before .before .before .lent-refusal .ensures) (c .before .before .before .before .before .before .before .before .before .before .before .before .before .if1 .left)))) (lent-bytes _ _ _ _ _ (c .before .before .before .before .before .before .before .before .before .before .before .before .before .before .lent-refusal .ensures) (c .before .before .before .before .before .before .before .before .before .before .before .before .before .if1 .left)) (c .before .before .before .before .before .before .before .put-bytes .ensures))
+returns-2 c =
+    let d = c .before .before .before .before .before .before .before .before .before .before .before .before .before .before in
+    let o = d .before .before .open-cluster .ensures .1 (lent-zero _ _ _ _ _ (d .before .lent-refusal .ensures) (d .if1 .left)) in
+    let a = d .before .before .before .before .before .args in
+    let z = sym (refusal-is _ _ _ _ _ _ _ (d .before .lent-refusal .ensures) (d .before .before .open-cluster .ensures .0)) ∙ d .if1 .left in
+    (planned-outcome _ _ (o .survey-is) z (o .plan-is) (c .plan-answer .ensures) (c .before .survey-rows .ensures), bytes-filled (a .n) (a .m) (a .leading) (a .present) (o .survey-is) (o .plan-is) (a .plan .now) z (c .before .before .before .before .before .before .before .before .copy-bytes .ensures))
 
 pub plan-bytes-spec : {M : Type 1} → statement M
 plan-bytes-spec =
     tie.close
     (tie.spec
-    view-cluster-requires
+    open-cluster-requires
     lent-refusal-requires
     refused-requires
     returns
-    sub-plan-survey
-    plan-survey-requires
-    put-bytes-requires
+    sub-copy-bytes
+    part-copy-bytes-start
+    part-copy-bytes-end
+    copy-bytes-requires
     survey-rows-requires
     plan-answer-requires
     same-length

@@ -41,7 +41,7 @@ replicas-less-2 : tie.Need-replicas-less-2 Inv-replicas μ-replicas
 replicas-less-2 c = search needs
 
 replicas-again-2 : tie.Need-replicas-again-2 Inv-replicas μ-replicas
-replicas-again-2 c = (search needs, search needs, partly-skip _ (c .before .before .before .before .before .replicas .inv .2) (refused-off _ _ _ _ _ (λ e. c .if2 .taken (c .before .view-replica .ensures .0 ∙ e))))
+replicas-again-2 c = (search needs, search needs, partly-skip _ (c .before .before .before .before .before .before .replicas .inv .2) (refused-off _ _ _ _ _ (λ e. c .if2 .taken (c .before .before .view-replica .ensures .0 ∙ e))))
 
 insert-requires : tie.Need-insert-requires Inv-replicas μ-replicas
 insert-requires c κs = search needs
@@ -52,11 +52,8 @@ mul-lengths c = search needs
 array-write-lengths : tie.Need-array-write-lengths Inv-replicas μ-replicas
 array-write-lengths c = search needs
 
-copy-conditions-requires : tie.Need-copy-conditions-requires Inv-replicas μ-replicas
-copy-conditions-requires c κs = search needs
-
-copy-epochs-requires : tie.Need-copy-epochs-requires Inv-replicas μ-replicas
-copy-epochs-requires c κs = search needs
+copy-slots-requires : tie.Need-copy-slots-requires Inv-replicas μ-replicas
+copy-slots-requires c κs = search needs
 
 add-c-3 : tie.Need-add-c-3 Inv-replicas μ-replicas
 add-c-3 c = search needs
@@ -65,12 +62,16 @@ replicas-less-3 : tie.Need-replicas-less-3 Inv-replicas μ-replicas
 replicas-less-3 c = search needs
 
 replicas-again-3 : tie.Need-replicas-again-3 Inv-replicas μ-replicas
-replicas-again-3 c = (
-  search needs,
-  search needs,
-  seen-more _ _ _ _ _ (c .before .before .before .before .before .before .before .before .before .before .before .before .before .before .replicas .inv .2) (omega arith) (slots-high _ (c .before .before .before .before .before .before .before .before .before .before .before .before .before .before .before .before .pre .1)) (sym (c .before .before .before .before .before .before .before .before .before .before .before .before .contains .ensures) ∙ not-false _ (c .before .before .before .before .before .before .before .before .before .before .before .if1 .left))
-      (sym (c .before .before .before .before .before .before .before .before .before .before .view-replica .ensures .0) ∙ c .before .before .before .before .before .before .before .before .before .if2 .left) (c .before .before .before .before .before .before .before .before .before .before .view-replica .ensures .1 (c .before .before .before .before .before .before .before .before .before .if2 .left)) (c .before .before .before .before .copy-conditions .ensures) (c .copy-epochs .ensures) (c .before .before .before .before .before .before .before .before .insert .ensures),
-)
+replicas-again-3 c =
+    let d = c .before .before .before .before in
+    let v = d .before .before .view-replica .ensures in
+    let old = d .before .before .before .before .before .before in (
+      search needs,
+      search needs,
+      seen-more _ _ _ _ _ (old .replicas .inv .2) (omega arith) (slots-high _ (old .before .before .pre .1))
+          (sym (d .before .before .before .before .contains .ensures) ∙ not-false _ (d .before .before .before .if1 .left)) (sym (v .0) ∙ d .if2 .left) (v .1 (d .if2 .left))
+          (c .copy-slots .ensures .0) (c .copy-slots .ensures .1) (c .before .before .before .insert .ensures),
+    )
 
 returns : tie.Need-returns Inv-replicas μ-replicas
 returns c = surveyed-any _ _ _ _ (partly-all _ _ (c .before .replicas .inv .2) (c .before .replicas .inv .1) (c .replicas-test .left))
@@ -93,8 +94,7 @@ survey-cluster-spec =
     insert-requires
     mul-lengths
     array-write-lengths
-    copy-conditions-requires
-    copy-epochs-requires
+    copy-slots-requires
     add-c-3
     replicas-less-3
     replicas-again-3

@@ -1,5 +1,5 @@
-use Rattle.planner.specs.Answers.{noRow}
-use mathlib.Core.Path.{sym, _∙_}
+use Rattle.planner.specs.Answers.{noRow, lastEpoch}
+use mathlib.Core.Path.{refl, sym, _∙_}
 use borrow.Author.Tests.{not-true, not-false}
 use Rattle.planner.proofs.RowLaws.{row-off, row-on}
 use native.Mathlib.Omega.{arith}
@@ -20,14 +20,18 @@ mul-length c = search needs
 element-copy-out-length : tie.Need-element-copy-out-length
 element-copy-out-length c = search needs
 
-last-epoch-requires : tie.Need-last-epoch-requires
-last-epoch-requires c κs = (search needs, c .before .before .before .pre .1 (sym (c .before .before .contains .ensures) ∙ not-false _ (c .before .if1 .left)))
+mul-last-epoch : tie.Need-mul-last-epoch
+mul-last-epoch c = search needs
 
-cast-t13 : tie.Need-cast-t13
-cast-t13 c = omega (arith, c .before .before .before .before .pre .1 (sym (c .before .before .before .contains .ensures) ∙ not-false _ (c .before .before .if1 .left)))
+last-epoch-requires : tie.Need-last-epoch-requires
+last-epoch-requires c κs = omega (arith, c .before .before .before .before .pre .1 (sym (c .before .before .before .contains .ensures) ∙ not-false _ (c .before .before .if1 .left)))
+
+cast-t15 : tie.Need-cast-t15
+cast-t15 c = omega (arith, c .before .before .before .before .before .pre .1 (sym (c .before .before .before .before .contains .ensures) ∙ not-false _ (c .before .before .before .if1 .left)))
 
 returns-2 : tie.Need-returns-2
-returns-2 c = row-on _ _ _ _ (sym (c .before .before .before .contains .ensures) ∙ not-false _ (c .before .before .if1 .left)) (omega arith) (c .last-epoch .ensures)
+unfolding lastEpoch
+returns-2 c = row-on _ _ _ _ (sym (c .before .before .before .before .contains .ensures) ∙ not-false _ (c .before .before .before .if1 .left)) (omega arith) (rw (c .last-epoch .ensures) refl)
 
 pub replica-row-spec : {M : Type 1} → statement M
 replica-row-spec =
@@ -37,6 +41,7 @@ replica-row-spec =
     returns
     mul-length
     element-copy-out-length
+    mul-last-epoch
     last-epoch-requires
-    cast-t13
+    cast-t15
     returns-2)

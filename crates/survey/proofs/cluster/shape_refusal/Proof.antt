@@ -20,29 +20,35 @@ is-size-requires c κs = search needs
 returns-3 : tie.Need-returns-3
 returns-3 c = shape-size _ _ _ _ (is-slots _ (c .before .before .before .if1 .left) (c .before .before .if2 .left)) (sym (c .before .is-size .ensures) ∙ not-true _ (c .if3 .taken))
 
-mul-if4 : tie.Need-mul-if4
-mul-if4 c = search needs
-
-add-if4 : tie.Need-add-if4
-add-if4 c = search needs
-
-mul-if4-2 : tie.Need-mul-if4-2
-mul-if4-2 c = omega (arith, cluster-fits (c .before .before .before .before .args .n) (c .before .before .before .before .args .m) (size-le _ (sym (c .before .is-size .ensures) ∙ not-false _ (c .if3 .left))) (omega arith))
+image-at-requires : tie.Need-image-at-requires
+image-at-requires c κs =
+    let few = size-le (c .before .before .before .before .args .n) (sym (c .before .is-size .ensures) ∙ not-false _ (c .if3 .left)) in
+    (omega arith, omega (arith, cluster-fits (c .before .before .before .before .args .n) (c .before .before .before .before .args .m) few (omega arith)))
 
 returns-4 : tie.Need-returns-4
-returns-4 c = shape-bytes _ _ _ _ (is-slots _ (c .before .before .before .before .if1 .left) (c .before .before .before .if2 .left)) (sym (c .before .before .is-size .ensures) ∙ not-false _ (c .before .if3 .left)) (c .if4 .taken)
+returns-4 c =
+    let d = c .before .before in
+    shape-bytes _ _ _ _ (is-slots _ (d .before .before .before .if1 .left) (d .before .before .if2 .left)) (sym (d .before .is-size .ensures) ∙ not-false _ (d .if3 .left)) (c .before .image-at .ensures) (c .if4 .taken)
 
 cast-if5 : tie.Need-cast-if5
-cast-if5 c = omega (arith, size-le (c .before .before .before .before .before .args .n) (sym (c .before .before .is-size .ensures) ∙ not-false _ (c .before .if3 .left)))
+cast-if5 c =
+    let d = c .before .before in
+    omega (arith, size-le (d .before .before .before .before .args .n) (sym (d .before .is-size .ensures) ∙ not-false _ (d .if3 .left)))
 
 shr-if5 : tie.Need-shr-if5
-shr-if5 c = omega (arith, size-le (c .before .before .before .before .before .args .n) (sym (c .before .before .is-size .ensures) ∙ not-false _ (c .before .if3 .left)))
+shr-if5 c =
+    let d = c .before .before in
+    omega (arith, size-le (d .before .before .before .before .args .n) (sym (d .before .is-size .ensures) ∙ not-false _ (d .if3 .left)))
 
 returns-5 : tie.Need-returns-5
-returns-5 c = shape-set _ _ _ _ (is-slots _ (c .before .before .before .before .before .if1 .left) (c .before .before .before .before .if2 .left)) (sym (c .before .before .before .is-size .ensures) ∙ not-false _ (c .before .before .if3 .left)) (c .before .if4 .left) (c .if5 .taken)
+returns-5 c =
+    let d = c .before .before .before in
+    shape-set _ _ _ _ (is-slots _ (d .before .before .before .if1 .left) (d .before .before .if2 .left)) (sym (d .before .is-size .ensures) ∙ not-false _ (d .if3 .left)) (c .before .before .image-at .ensures) (c .before .if4 .left) (c .if5 .taken)
 
 returns-6 : tie.Need-returns-6
-returns-6 c = shape-none _ _ _ _ (is-slots _ (c .before .before .before .before .before .if1 .left) (c .before .before .before .before .if2 .left)) (sym (c .before .before .before .is-size .ensures) ∙ not-false _ (c .before .before .if3 .left)) (c .before .if4 .left) (c .if5 .left)
+returns-6 c =
+    let d = c .before .before .before in
+    shape-none _ _ _ _ (is-slots _ (d .before .before .before .if1 .left) (d .before .before .if2 .left)) (sym (d .before .is-size .ensures) ∙ not-false _ (d .if3 .left)) (c .before .before .image-at .ensures) (c .before .if4 .left) (c .if5 .left)
 
 pub shape-refusal-spec : {M : Type 1} → statement M
 shape-refusal-spec =
@@ -52,9 +58,7 @@ shape-refusal-spec =
     returns-2
     is-size-requires
     returns-3
-    mul-if4
-    add-if4
-    mul-if4-2
+    image-at-requires
     returns-4
     cast-if5
     shr-if5
