@@ -8,10 +8,13 @@ use column::ColumnState;
 use report::Command;
 use report::Present;
 
+// n, m, the leader's number and the set, with the newline behind them.
+pub const COMMAND_SIZE: usize = 14;
+
 // A command line of these columns: only the set may be blank.
-fn command_of(n: ColumnState, m: ColumnState, leader: ColumnState, set: ColumnState) -> Command
+fn command_of(n: ColumnState, m: ColumnState, leading: ColumnState, set: ColumnState) -> Command
     requires { ⌜ ((w : ℕ) → set ≡ ColumnState.Number w → w < 10000) ⌝ }
-    ensures { λ r. ⌜ r ≡ commandOf n m leader set ⌝ }
+    ensures { λ r. ⌜ r ≡ commandOf n m leading set ⌝ }
 {
     let ColumnState::Number(n) = n else {
         return Command::Malformed;
@@ -19,17 +22,22 @@ fn command_of(n: ColumnState, m: ColumnState, leader: ColumnState, set: ColumnSt
     let ColumnState::Number(m) = m else {
         return Command::Malformed;
     };
-    let ColumnState::Number(leader) = leader else {
+    let ColumnState::Number(leading) = leading else {
         return Command::Malformed;
     };
     match set {
-        ColumnState::Number(w) => Command::Well(
-            n as usize,
-            m as usize,
-            leader as usize,
-            Present::Set(w as u32),
-        ),
-        ColumnState::Blank => Command::Well(n as usize, m as usize, leader as usize, Present::All),
+        ColumnState::Number(w) => Command::Well {
+            n: n as usize,
+            m: m as usize,
+            leading: leading as usize,
+            present: Present::Set(w as u32),
+        },
+        ColumnState::Blank => Command::Well {
+            n: n as usize,
+            m: m as usize,
+            leading: leading as usize,
+            present: Present::All,
+        },
         ColumnState::Malformed => Command::Malformed,
     }
 }
@@ -38,17 +46,17 @@ fn command_of(n: ColumnState, m: ColumnState, leader: ColumnState, set: ColumnSt
 pub fn read_command(input: &[u8]) -> Command
     ensures { λ r. ⌜ r ≡ commandLine (now (input .entry)) ⌝ }
 {
-    if input.len() < 14 {
+    if input.len() < COMMAND_SIZE {
         return Command::Malformed;
     }
-    if input[13] != 10 {
+    if input[COMMAND_SIZE - 1] != b'\n' {
         return Command::Malformed;
     }
     let n = spell::read_column(&input[0..3]);
     let m = spell::read_column(&input[3..6]);
-    let leader = spell::read_column(&input[6..9]);
+    let leading = spell::read_column(&input[6..9]);
     let set = spell::read_column(&input[9..13]);
-    command_of(n, m, leader, set)
+    command_of(n, m, leading, set)
 }
 
 // The set of all n replicas.

@@ -6,16 +6,22 @@ ghost use lib.ListN.{length, getD};
 ghost use Rattle.search.specs.Search.{joined};
 ghost use Rattle.image.specs.View.{View};
 ghost use Rattle.planner.specs.Setting.{Setting};
-ghost use Rattle.planner.specs.Survey.{SurveyOf, Planned};
+ghost use Rattle.planner.specs.Survey.{SurveyIs, PlanIs};
 ghost use Rattle.report.specs.Report.{refusedLine, headLine, planLines, clusterReport, reportOf, Prints};
 ghost use Rattle.report.specs.Lines.{lineFrom};
+use crate::command::COMMAND_SIZE;
 use crate::command::present_word;
 use crate::command::read_command;
-use decide::plan_survey;
-use planner::Plan;
-use planner::Survey;
+use crate::lines::HEADING_SIZE;
+use crate::lines::Heading;
+use crate::lines::LINE_SIZE;
+use crate::lines::PAGE_SIZE;
+use crate::lines::REFUSED_SIZE;
+use decide::Opening;
+use decide::open_cluster;
+use locate::MAX_SLOTS;
+use planner::SURVEY_SLOTS;
 use report::Command;
-use survey::cluster::view_cluster;
 
 mod command; // command.rt: the command line
 mod lines; // lines.rt: the lines that are printed
@@ -25,17 +31,20 @@ const READY: usize = 0;
 
 const WAITING: usize = 1;
 
-// What is printed: the first `count` bytes. A first line of 17 bytes and 64 of 20 are the most.
+// An input has at most so many bytes.
+const MAX_INPUT: usize = 65536;
+
+// What is printed: the first `count` bytes.
 pub struct Report {
-    pub bytes: [u8; 1297],
+    pub bytes: [u8; PAGE_SIZE],
     pub count: usize,
 }
 
 // Room for the longest output. Only its length is promised, so that no proof opens 1,297 zeros.
-fn empty_page() -> [u8; 1297]
+fn empty_page() -> [u8; PAGE_SIZE]
     ensures { λ r. ⌜ 1297 ≡ length r ⌝ }
 {
-    [0u8; 1297]
+    [0u8; PAGE_SIZE]
 }
 
 // A refusal, alone.
@@ -43,93 +52,98 @@ fn report_refusal(number: u64) -> Report
     ensures { λ r. ⌜ Prints (refusedLine number) (r .bytes) (r .count) ⌝ }
 {
     let mut bytes = empty_page();
-    lines::write_refused(&mut bytes[0..12], number);
+    lines::write_refused(&mut bytes[0..REFUSED_SIZE], number);
     Report {
         bytes: bytes,
-        count: 12,
+        count: REFUSED_SIZE,
     }
 }
 
 // The first line, and a line for each of the first `count` slots of the leader. Their epochs begin at `from`.
 fn report_slots(
-    n: usize,
-    leader: usize,
-    status: usize,
-    number: usize,
+    heading: Heading,
     count: usize,
-    epochs: &[u32; 448],
+    epochs: &[u32; SURVEY_SLOTS],
     from: usize,
-    plan: &[u8; 64],
+    plan: &[u8; MAX_SLOTS],
 ) -> Report
     requires { ⌜ (count ≤ 64) × (from + 64 ≤ 448) ⌝ }
-    ensures { λ r. ⌜ Prints (headLine n leader status number ++ joined count (lineFrom (now (epochs .entry)) from (now (plan .entry)))) (r .bytes) (r .count) ⌝ }
+    ensures { λ r. ⌜ Prints (headLine (heading .n) (heading .leading) (heading .status) (heading .number)
+        ++ joined count (lineFrom (now (epochs .entry)) from (now (plan .entry)))) (r .bytes) (r .count) ⌝ }
 {
     let mut bytes = empty_page();
-    lines::write_head(&mut bytes[0..17], n, leader, status, number);
+    lines::write_heading(&mut bytes[0..HEADING_SIZE], heading);
     lines::put_slots(&mut bytes, count, epochs, from, plan);
     Report {
         bytes: bytes,
-        count: 17 + 20 * count,
+        count: HEADING_SIZE + LINE_SIZE * count,
     }
 }
 
-// The plan of whatever views the survey and the plan are of. The leader stands at `at` in the survey.
-fn report_plan(n: usize, leader: usize, at: usize, survey: Survey, plan: Plan) -> Report
-    requires { ⌜ (at < 7) × (getD (survey .lengths) at 0 ≤ 64) ⌝ }
-    ensures { λ r. ⌜ ((S : Setting) (W : ℕ → View) → SurveyOf S W n at (survey .readable) (survey .lengths) (survey .conditions) (survey .epochs)
-        → Planned S W (plan .bytes) (plan .end) (plan .waiting) → Prints (planLines n leader S W) (r .bytes) (r .count)) ⌝ }
+// The plan of a cluster that was opened.
+fn report_plan(n: usize, leading: usize, opening: Opening) -> Report
+    requires { ⌜ (opening .leader < 7) × (getD (opening .survey .lengths) (opening .leader) 0 ≤ 64) ⌝ }
+    ensures { λ r. ⌜ ((S : Setting) (W : ℕ → View) → SurveyIs S W n (opening .leader) (opening .survey) → PlanIs S W (opening .plan)
+        → Prints (planLines n leading S W) (r .bytes) (r .count)) ⌝ }
 {
-    let count = survey.lengths[at];
+    let leader = opening.leader;
+    let survey = opening.survey;
+    let plan = opening.plan;
+    let count = survey.lengths[leader];
+    let from = leader * MAX_SLOTS;
     let end = plan.end;
     let waiting = plan.waiting;
     if waiting < end {
-        return report_slots(
+        let heading = Heading {
             n,
-            leader,
-            WAITING,
-            waiting + 1,
-            count,
-            &survey.epochs,
-            at * 64,
-            &plan.bytes,
-        );
+            leading,
+            status: WAITING,
+            number: waiting + 1,
+        };
+        return report_slots(heading, count, &survey.epochs, from, &plan.bytes);
     }
-    report_slots(
+    let heading = Heading {
         n,
-        leader,
-        READY,
-        end,
-        count,
-        &survey.epochs,
-        at * 64,
-        &plan.bytes,
-    )
+        leading,
+        status: READY,
+        number: end,
+    };
+    report_slots(heading, count, &survey.epochs, from, &plan.bytes)
 }
 
 // The plan of a cluster, or the refusal of planning.
-fn report_cluster(cluster: &[u8], n: usize, m: usize, leader: usize, present: u32) -> Report
-    ensures { λ r. ⌜ Prints (clusterReport n m leader present (now (cluster .entry))) (r .bytes) (r .count) ⌝ }
+fn report_cluster(cluster: &[u8], n: usize, m: usize, leading: usize, present: u32) -> Report
+    ensures { λ r. ⌜ Prints (clusterReport n m leading present (now (cluster .entry))) (r .bytes) (r .count) ⌝ }
 {
-    let view = view_cluster(cluster, n, m, leader, present);
-    let refusal = view.refusal;
+    let opening = open_cluster(cluster, n, m, leading, present);
+    let refusal = opening.refusal;
     if refusal != 0 {
         return report_refusal(refusal as u64);
     }
-    let survey = view.survey;
-    let at = leader - 1;
-    let plan = plan_survey(survey, n, at);
-    report_plan(n, leader, at, survey, plan)
+    report_plan(n, leading, opening)
 }
 
 // All that is printed for an input.
 pub fn report_of(input: &[u8]) -> Report
     ensures { λ r. ⌜ Prints (reportOf (now (input .entry))) (r .bytes) (r .count) ⌝ }
 {
-    if 65536 < input.len() {
+    if MAX_INPUT < input.len() {
         return report_refusal(3);
     }
-    let Command::Well(n, m, leader, set) = read_command(input) else {
+    let Command::Well {
+        n,
+        m,
+        leading,
+        present,
+    } = read_command(input)
+    else {
         return report_refusal(14);
     };
-    report_cluster(&input[14..], n, m, leader, present_word(n, set))
+    report_cluster(
+        &input[COMMAND_SIZE..],
+        n,
+        m,
+        leading,
+        present_word(n, present),
+    )
 }

@@ -1,4 +1,4 @@
--- The lines of the leader's slots as they are made of a survey's epochs, which begin at an offset, and the plan bytes.
+-- For proofs only. The lines of the leader's slots as they are made of a survey's epochs, which begin at an offset, and the plan bytes.
 use Prim.Native.Nat.{ℕ, _+_}
 use mathlib.Core.List.{List}
 use lib.ListN.{getD}

@@ -6,8 +6,13 @@ pub enum Present {
     All,
 }
 
-// A command line: n, m, the leader and the set, or not well formed.
+// A command line: n, m, the leader's number and the set, or not well formed.
 pub enum Command {
-    Well(usize, usize, usize, Present),
+    Well {
+        n: usize,
+        m: usize,
+        leading: usize,
+        present: Present,
+    },
     Malformed,
 }

@@ -9,20 +9,17 @@ mul-count c = search needs
 element-copy-out-count : tie.Need-element-copy-out-count
 element-copy-out-count c = search needs
 
-add-report-slots : tie.Need-add-report-slots
-add-report-slots c = search needs
+mul-from : tie.Need-mul-from
+mul-from c = search needs
 
-mul-report-slots : tie.Need-mul-report-slots
-mul-report-slots c = search needs
+add-t18 : tie.Need-add-t18
+add-t18 c = search needs
 
 report-slots-requires : tie.Need-report-slots-requires
 report-slots-requires c κs = search needs
 
 returns : tie.Need-returns
 returns c = λ S W s p. law.prints (law.waiting-lines S W s p _ (c .before .before .before .before .before .if1 .taken)) (c .report-slots .ensures)
-
-mul-report-slots-2 : tie.Need-mul-report-slots-2
-mul-report-slots-2 c = search needs
 
 report-slots-requires-2 : tie.Need-report-slots-requires-2
 report-slots-requires-2 c κs = search needs
@@ -36,10 +33,9 @@ report-plan-spec =
     (tie.spec
     mul-count
     element-copy-out-count
-    add-report-slots
-    mul-report-slots
+    mul-from
+    add-t18
     report-slots-requires
     returns
-    mul-report-slots-2
     report-slots-requires-2
     returns-2)

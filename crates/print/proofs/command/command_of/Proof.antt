@@ -16,8 +16,8 @@ enum-known-m c = search needs
 returns-2 : tie.Need-returns-2
 returns-2 c = law.no-m _ _ _ _ (c .before .before .n .given .1) (c .match2 .keys2)
 
-enum-known-leader : tie.Need-enum-known-leader
-enum-known-leader c = search needs
+enum-known-leading : tie.Need-enum-known-leading
+enum-known-leading c = search needs
 
 returns-3 : tie.Need-returns-3
 returns-3 c = law.no-leader _ _ _ _ (c .before .before .before .before .before .n .given .1) (c .before .before .m .given .1) (c .match3 .keys2)
@@ -35,13 +35,13 @@ enum-told-2 : tie.Need-enum-told-2
 enum-told-2 c = search needs
 
 returns-4 : tie.Need-returns-4
-returns-4 c = law.with-set _ _ _ _ (c .before .before .before .before .before .before .before .before .before .before .n .given .1) (c .before .before .before .before .before .before .before .m .given .1) (c .before .before .before .before .leader .given .1) (c .before .set .given .1)
+returns-4 c = law.with-set _ _ _ _ (c .before .before .before .before .before .before .before .before .before .before .n .given .1) (c .before .before .before .before .before .before .before .m .given .1) (c .before .before .before .before .leading .given .1) (c .before .set .given .1)
 
 returns-5 : tie.Need-returns-5
-returns-5 c = law.with-all _ _ _ _ (c .before .before .before .before .before .before .before .before .before .n .given .1) (c .before .before .before .before .before .before .m .given .1) (c .before .before .before .leader .given .1) (c .enum-told .given .1)
+returns-5 c = law.with-all _ _ _ _ (c .before .before .before .before .before .before .before .before .before .n .given .1) (c .before .before .before .before .before .before .m .given .1) (c .before .before .before .leading .given .1) (c .enum-told .given .1)
 
 returns-6 : tie.Need-returns-6
-returns-6 c = law.no-set _ _ _ _ (c .before .before .before .before .before .before .before .before .before .n .given .1) (c .before .before .before .before .before .before .m .given .1) (c .before .before .before .leader .given .1) (c .enum-told2 .given .1)
+returns-6 c = law.no-set _ _ _ _ (c .before .before .before .before .before .before .before .before .before .n .given .1) (c .before .before .before .before .before .before .m .given .1) (c .before .before .before .leading .given .1) (c .enum-told2 .given .1)
 
 pub command-of-spec : {M : Type 1} → statement M
 command-of-spec =
@@ -51,7 +51,7 @@ command-of-spec =
     returns
     enum-known-m
     returns-2
-    enum-known-leader
+    enum-known-leading
     returns-3
     enum-known-set
     cast-t13

@@ -7,6 +7,9 @@ use Rattle.print.proofs.command.read_command.Tie as tie
 returns : tie.Need-returns
 returns c = law.too-short _ (c .if1 .taken)
 
+sub-if2 : tie.Need-sub-if2
+sub-if2 c = search needs
+
 shared-slice-read-if2 : tie.Need-shared-slice-read-if2
 shared-slice-read-if2 c = search needs
 
@@ -74,6 +77,7 @@ read-command-spec =
     tie.close
     (tie.spec
     returns
+    sub-if2
     shared-slice-read-if2
     returns-2
     sub-read-column

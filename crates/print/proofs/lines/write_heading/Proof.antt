@@ -1,7 +1,7 @@
 use Rattle.report.proofs.LineLaws as law
 use borrow.Author.Needs.{needs}
-use Rattle.print.proofs.lines.write_head.Statement.{statement}
-use Rattle.print.proofs.lines.write_head.Tie as tie
+use Rattle.print.proofs.lines.write_heading.Statement.{statement}
+use Rattle.print.proofs.lines.write_heading.Tie as tie
 
 put-number-requires : tie.Need-put-number-requires
 put-number-requires c κs = search needs
@@ -27,8 +27,8 @@ same-length c = search needs
 returns : tie.Need-returns
 returns c = law.head-written _ _ _ _ _ _ _ _ _ _ (c .before .before .before .before .before .before .before .before .before .before .before .before .before .before .before .before .before .before .before .before .before .before .pre) (c .before .before .before .before .before .before .before .before .before .before .before .before .before .before .before .before .before .before .before .put-number .ensures) (c .before .before .before .before .before .before .before .before .before .before .before .before .before .before .before .put-number2 .ensures) (c .before .before .before .before .before .before .before .before .before .before .before .put-number3 .ensures) (c .before .before .before .before .before .before .before .put-number4 .ensures) (c .before .before .put-bytes .ensures)
 
-pub write-head-spec : {M : Type 1} → statement M
-write-head-spec =
+pub write-heading-spec : {M : Type 1} → statement M
+write-heading-spec =
     tie.close
     (tie.spec
     put-number-requires
