@@ -138,7 +138,7 @@ fn kept_byte(condition: u8) -> u8
     if condition < condition::FAULTY {
         return condition;
     }
-    0
+    condition::UNUSED
 }
 
 // The plan byte of a faulty slot that is not truncated: fetch from the donor, or wait where there is none.

@@ -4,16 +4,15 @@ ghost use mathlib.Core.Path.{_≡_};
 ghost use lib.ListN.{length};
 ghost use Rattle.image.specs.View.{View};
 ghost use Rattle.planner.specs.Setting.{Setting, settingOf};
-ghost use Rattle.planner.specs.Rules.{answer};
 ghost use Rattle.planner.specs.Plan.{viewsIn, lentRefusal, planRefusal};
 ghost use Rattle.planner.specs.Answers.{answerAt, planCallAnswer, planLeft, rowsLeft, Outcome};
 use copy::copy_bytes;
 use decide::open_cluster;
-use locate::MAX_REPLICAS;
 use planner::PlanAnswer;
 use planner::ReplicaRow;
 use tabulate::PlanOutcome;
 use tabulate::fill_rows;
+use tabulate::no_rows;
 use tabulate::survey_rows;
 
 // The answer of a plan: the number of the lowest waiting slot, or the final length.
@@ -47,11 +46,7 @@ fn refused(refusal: u8) -> PlanOutcome
     requires { ⌜ (refusal ≡ 0 → ⊥) ⌝ }
     ensures { λ r. ⌜ ((S : Setting) (W : ℕ → View) → Outcome refusal S W (r .answer) (r .count) (r .rows)) ⌝ }
 {
-    let rows = [ReplicaRow {
-        readable: 0,
-        length: 0,
-        last_epoch: 0,
-    }; MAX_REPLICAS];
+    let rows = no_rows();
     PlanOutcome {
         answer: PlanAnswer::Refused(refusal),
         count: 0,

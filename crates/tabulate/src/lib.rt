@@ -47,6 +47,17 @@ fn replica_row<'a>(
     }
 }
 
+// Room for the rows of the largest cluster.
+pub fn no_rows() -> [ReplicaRow; MAX_REPLICAS]
+    ensures { λ r. ⌜ length r ≡ 7 ⌝ }
+{
+    [ReplicaRow {
+        readable: 0,
+        length: 0,
+        last_epoch: 0,
+    }; MAX_REPLICAS]
+}
+
 // The rows of the first n replicas.
 pub fn survey_rows<'a>(
     readable: u32,
@@ -58,11 +69,7 @@ pub fn survey_rows<'a>(
     ensures sized { λ r. ⌜ length r ≡ 7 ⌝ }
     ensures rows { λ r. ⌜ take n r ≡ listed n (numberRow readable (now (lengths .entry)) (now (epochs .entry))) ⌝ }
 {
-    let mut rows = [ReplicaRow {
-        readable: 0,
-        length: 0,
-        last_epoch: 0,
-    }; MAX_REPLICAS];
+    let mut rows = no_rows();
     let mut c: usize = 0;
     while c < n {
         rows[c] = replica_row(readable, lengths, epochs, c);

@@ -41,7 +41,7 @@ replicas-less-2 : tie.Need-replicas-less-2 Inv-replicas μ-replicas
 replicas-less-2 c = search needs
 
 replicas-again-2 : tie.Need-replicas-again-2 Inv-replicas μ-replicas
-replicas-again-2 c = (search needs, search needs, partly-skip _ (c .before .before .before .before .before .before .replicas .inv .2) (refused-off _ _ _ _ _ (λ e. c .if2 .taken (c .before .before .view-replica .ensures .0 ∙ e))))
+replicas-again-2 c = (search needs, search needs, partly-skip _ (c .before .before .before .before .before .before .replicas .inv .2) (refused-off _ _ _ _ _ (λ e. omega (arith, c .before .before .view-replica .ensures .0))))
 
 insert-requires : tie.Need-insert-requires Inv-replicas μ-replicas
 insert-requires c κs = search needs
@@ -69,7 +69,7 @@ replicas-again-3 c =
       search needs,
       search needs,
       seen-more _ _ _ _ _ (old .replicas .inv .2) (omega arith) (slots-high _ (old .before .before .pre .1))
-          (sym (d .before .before .before .before .contains .ensures) ∙ not-false _ (d .before .before .before .if1 .left)) (sym (v .0) ∙ d .if2 .left) (v .1 (d .if2 .left))
+          (sym (d .before .before .before .before .contains .ensures) ∙ not-false _ (d .before .before .before .if1 .left)) (omega (arith, v .0)) (v .1 (omega arith))
           (c .copy-slots .ensures .0) (c .copy-slots .ensures .1) (c .before .before .before .insert .ensures),
     )
 

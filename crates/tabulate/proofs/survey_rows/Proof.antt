@@ -15,11 +15,14 @@ Inv-loop readable lengths epochs n rows₀ c₀ rows c = (c ≤ n) × (length ro
 abbrev μ-loop : tie.MeasureT-loop
 μ-loop readable lengths epochs n rows₀ c₀ rows c = n - c
 
+no-rows-requires : tie.Need-no-rows-requires Inv-loop μ-loop
+no-rows-requires c κs = search needs
+
 loop-holds : tie.Need-loop-holds Inv-loop μ-loop
 loop-holds c = (search needs, search needs, rows-none _)
 
 replica-row-requires : tie.Need-replica-row-requires Inv-loop μ-loop
-replica-row-requires c κs = (omega arith, c .before .before .pre .1 _ (c .loop-test .taken))
+replica-row-requires c κs = (omega arith, c .before .before .before .pre .1 _ (c .loop-test .taken))
 
 mul-rows : tie.Need-mul-rows Inv-loop μ-loop
 mul-rows c = search needs
@@ -45,6 +48,7 @@ survey-rows-spec =
     (tie.spec
     Inv-loop
     μ-loop
+    no-rows-requires
     loop-holds
     replica-row-requires
     mul-rows

@@ -1,3 +1,4 @@
+use native.Mathlib.Omega.{arith}
 use Rattle.slices.specs.Parts.{part}
 use Rattle.report.proofs.CommandLaws as law
 use borrow.Author.Needs.{needs}
@@ -14,7 +15,7 @@ shared-slice-read-if2 : tie.Need-shared-slice-read-if2
 shared-slice-read-if2 c = search needs
 
 returns-2 : tie.Need-returns-2
-returns-2 c = law.no-newline _ (c .before .before .if1 .left) (c .if2 .taken)
+returns-2 c = law.no-newline (c .before .before .before .before .args .input .now) (c .before .before .if1 .left) (λ e. omega arith)
 
 sub-read-column : tie.Need-sub-read-column
 sub-read-column c = search needs

@@ -43,12 +43,12 @@ shr-if5 c =
 returns-5 : tie.Need-returns-5
 returns-5 c =
     let d = c .before .before .before in
-    shape-set _ _ _ _ (is-slots _ (d .before .before .before .if1 .left) (d .before .before .if2 .left)) (sym (d .before .is-size .ensures) ∙ not-false _ (d .if3 .left)) (c .before .before .image-at .ensures) (c .before .if4 .left) (c .if5 .taken)
+    shape-set _ _ _ _ (is-slots _ (d .before .before .before .if1 .left) (d .before .before .if2 .left)) (sym (d .before .is-size .ensures) ∙ not-false _ (d .if3 .left)) (c .before .before .image-at .ensures) (c .before .if4 .left) (λ e. omega arith)
 
 returns-6 : tie.Need-returns-6
 returns-6 c =
     let d = c .before .before .before in
-    shape-none _ _ _ _ (is-slots _ (d .before .before .before .if1 .left) (d .before .before .if2 .left)) (sym (d .before .is-size .ensures) ∙ not-false _ (d .if3 .left)) (c .before .before .image-at .ensures) (c .before .if4 .left) (c .if5 .left)
+    shape-none _ _ _ _ (is-slots _ (d .before .before .before .if1 .left) (d .before .before .if2 .left)) (sym (d .before .is-size .ensures) ∙ not-false _ (d .if3 .left)) (c .before .before .image-at .ensures) (c .before .if4 .left) (omega arith)
 
 pub shape-refusal-spec : {M : Type 1} → statement M
 shape-refusal-spec =
