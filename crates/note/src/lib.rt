@@ -7,6 +7,7 @@ ghost use lib.Dec.{ltb};
 ghost use Rattle.protocol.specs.Store.{Store, storeEntry, storeRecord, storeBlank, storeReplica, storeSlot};
 ghost use Rattle.recovery.specs.NextStore.{storeOf};
 ghost use Rattle.recovery.specs.Note.{SlotSet, Noted};
+use image::condition;
 use planner::Survey;
 use recovery::NextStore;
 
@@ -39,7 +40,7 @@ fn note_entry(survey: Survey, c: usize, k: usize) -> Survey
         return survey;
     }
     let epoch = survey.epochs[c * 64 + k];
-    with_slot(survey, c, k, length, 1, epoch)
+    with_slot(survey, c, k, length, condition::WHOLE, epoch)
 }
 
 // How long a log is whose slot k got a record.
@@ -59,7 +60,7 @@ fn note_record(survey: Survey, c: usize, k: usize, epoch: u32) -> Survey
     ensures { λ r. ⌜ Noted (storeRecord c k epoch) survey r ⌝ }
 {
     let grown = length_with(survey.lengths[c], k);
-    with_slot(survey, c, k, grown, 1, epoch)
+    with_slot(survey, c, k, grown, condition::WHOLE, epoch)
 }
 
 // A blanked record leaves its slot unused, and ends the log there.
@@ -67,7 +68,7 @@ fn note_blank(survey: Survey, c: usize, k: usize) -> Survey
     requires { ⌜ (c < 7) × (k < 64) ⌝ }
     ensures { λ r. ⌜ Noted (storeBlank c k) survey r ⌝ }
 {
-    with_slot(survey, c, k, k, 0, 0)
+    with_slot(survey, c, k, k, condition::UNUSED, 0)
 }
 
 // The survey once the store has been made.
@@ -77,8 +78,8 @@ pub fn note_store(survey: Survey, store: NextStore) -> Survey
 {
     match store {
         NextStore::Nothing => survey,
-        NextStore::Entry(c, k, _donor) => note_entry(survey, c, k),
-        NextStore::Record(c, k, epoch) => note_record(survey, c, k, epoch),
-        NextStore::Blank(c, k) => note_blank(survey, c, k),
+        NextStore::Entry { c, k, donor: _ } => note_entry(survey, c, k),
+        NextStore::Record { c, k, epoch } => note_record(survey, c, k, epoch),
+        NextStore::Blank { c, k } => note_blank(survey, c, k),
     }
 }

@@ -2,26 +2,33 @@
 // count from 0.
 ghost use Prim.Native.Nat.{ℕ, _+_, _*_, _-_, _<_, _≤_};
 ghost use mathlib.Core.Path.{_≡_};
-ghost use mathlib.Core.Bool.{true, false, not, _&&_};
+ghost use mathlib.Core.Bool.{false, not, _&&_};
 ghost use lib.Dec.{eqb, ltb};
 ghost use lib.ListN.{length, getD};
 ghost use Rattle.search.specs.Search.{lowest};
 ghost use Rattle.slices.specs.Parts.{part};
 ghost use Rattle.slices.specs.Same.{same};
+ghost use Rattle.record.specs.Layout.{entrySize};
 ghost use Rattle.image.specs.Image.{entryAt};
-ghost use Rattle.image.specs.Cluster.{imageAt, decode};
+ghost use Rattle.image.specs.Cluster.{imageAt, ImageFits};
 ghost use Rattle.image.specs.View.{View};
-ghost use Rattle.planner.specs.Setting.{Setting, has};
+ghost use Rattle.planner.specs.Setting.{Setting};
 ghost use Rattle.planner.specs.Plan.{viewsIn};
-ghost use Rattle.planner.specs.Survey.{SurveyOf, Planned};
+ghost use Rattle.planner.specs.Survey.{SurveyIs, PlanIs};
 ghost use Rattle.protocol.specs.Recovery.{_or_, leaderStore, followerStore, unlike, due, followersStore, isSome};
-ghost use Rattle.image.specs.Cluster.{ImageFits};
 ghost use Rattle.recovery.specs.NextStore.{storeOf};
-ghost use Rattle.recovery.specs.Look.{Looked, InRange};
+ghost use Rattle.recovery.specs.Look.{InRange, Answering, Sees, clusterIn, missingStore};
+use image::condition;
+use locate::ENTRY_SIZE;
+use locate::entry_in;
 use planner::Plan;
 use planner::Survey;
 use recovery::NextStore;
-use store::entry_at;
+use recovery::Shape;
+use survey::sets::contains;
+
+// A plan byte above this one says fetch: by so much it is above the number of the replica to fetch from.
+const FETCH: u8 = 10;
 
 // The lowest slot of replica c below the bound whose condition has this number; the bound if there is none.
 fn first_with(conditions: &[u8; 448], c: usize, number: u8, bound: usize) -> usize
@@ -45,7 +52,7 @@ fn first_fetched(bytes: &[u8; 64], end: usize) -> usize
 {
     let mut k: usize = 0;
     while k < end {
-        if 10 < bytes[k] {
+        if FETCH < bytes[k] {
             return k;
         }
         k += 1;
@@ -63,7 +70,8 @@ fn first_differing(
     length: usize,
 ) -> usize
     requires { ⌜ (leader < 7) × (c < 7) × (length ≤ 64) ⌝ }
-    ensures { λ r. ⌜ r ≡ lowest (λ k. not (ltb k limit && eqb (getD (now (epochs .entry)) (c * 64 + k) 0) (getD (now (epochs .entry)) (leader * 64 + k) 0))) length ⌝ }
+    ensures { λ r. ⌜ r ≡ lowest (λ k. not (ltb k limit
+        && eqb (getD (now (epochs .entry)) (c * 64 + k) 0) (getD (now (epochs .entry)) (leader * 64 + k) 0))) length ⌝ }
 {
     let mut k: usize = 0;
     while k < length {
@@ -78,15 +86,17 @@ fn first_differing(
     k
 }
 
-// Whether the entry of slot k of replica c differs from the leader's in any of its 240 bytes.
-fn entry_differs(cluster: &[u8], m: usize, leader: usize, c: usize, k: usize) -> bool
-    requires { ⌜ (k < m) × ImageFits m (length (now cluster)) c × ImageFits m (length (now cluster)) leader ⌝ }
-    ensures { λ r. ⌜ r ≡ not (same (part (now (cluster .entry)) (imageAt m c + entryAt m k) 240) (part (now (cluster .entry)) (imageAt m leader + entryAt m k) 240)) ⌝ }
+// Whether the entry of slot k of replica c differs from the leader's in any byte.
+fn entry_differs(cluster: &[u8], shape: Shape, c: usize, k: usize) -> bool
+    requires { ⌜ (shape .m ≤ 64) × (k < shape .m) ⌝ }
+    requires { ⌜ ImageFits (shape .m) (length (now cluster)) c × ImageFits (shape .m) (length (now cluster)) (shape .leader) ⌝ }
+    ensures { λ r. ⌜ r ≡ not (same (part (now (cluster .entry)) (imageAt (shape .m) c + entryAt (shape .m) k) entrySize)
+        (part (now (cluster .entry)) (imageAt (shape .m) (shape .leader) + entryAt (shape .m) k) entrySize)) ⌝ }
 {
-    let own = entry_at(m, c, k);
-    let own_end = own + 240;
-    let other = entry_at(m, leader, k);
-    let other_end = other + 240;
+    let own = entry_in(shape.m, c, k);
+    let own_end = own + ENTRY_SIZE;
+    let other = entry_in(shape.m, shape.leader, k);
+    let other_end = other + ENTRY_SIZE;
     !copy::same_bytes(&cluster[own..own_end], &cluster[other..other_end])
 }
 
@@ -95,102 +105,109 @@ fn donor_in(byte: u8) -> usize
     requires { ⌜ 10 < byte ⌝ }
     ensures { λ r. ⌜ r ≡ byte - 11 ⌝ }
 {
-    (byte - 11) as usize
+    (byte - FETCH - 1) as usize
 }
 
 // The leader's first store: records blanked from the last slot down to the end; fetched entries, lowest first; lost records, lowest first.
-fn leader_store<'a>(
-    bytes: &'a [u8; 64],
-    conditions: &'a [u8; 448],
-    epochs: &'a [u32; 448],
-    leader: usize,
-    length: usize,
-    end: usize,
-) -> NextStore
-    requires { ⌜ (leader < 7) × (end ≤ 64) ⌝ }
-    ensures { λ r. ⌜ ((S : Setting) (W : ℕ → View) (waiting : ℕ) → S .leader ≡ leader
-        → Looked (S .m) (W leader) leader length (now (conditions .entry)) (now (epochs .entry))
-        → Planned S W (now (bytes .entry)) end waiting → storeOf r ≡ leaderStore S W) ⌝ }
+fn leader_store(survey: Survey, plan: Plan, leader: usize) -> NextStore
+    requires { ⌜ (leader < 7) × (plan .end ≤ 64) ⌝ }
+    ensures { λ r. ⌜ ((S : Setting) (W : ℕ → View) (n : ℕ) → SurveyIs S W n leader survey → PlanIs S W plan → storeOf r ≡ leaderStore S W) ⌝ }
 {
+    let end = plan.end;
+    let length = survey.lengths[leader];
     if end < length {
-        return NextStore::Blank(leader, length - 1);
+        return NextStore::Blank {
+            c: leader,
+            k: length - 1,
+        };
     }
-    let fetched = first_fetched(bytes, end);
+    let fetched = first_fetched(&plan.bytes, end);
     if fetched < end {
-        return NextStore::Entry(leader, fetched, donor_in(bytes[fetched]));
+        return NextStore::Entry {
+            c: leader,
+            k: fetched,
+            donor: donor_in(plan.bytes[fetched]),
+        };
     }
-    let lost = first_with(conditions, leader, 2, end);
+    let lost = first_with(&survey.conditions, leader, condition::RECORD_LOST, end);
     if lost < end {
-        return NextStore::Record(leader, lost, epochs[leader * 64 + lost]);
+        return NextStore::Record {
+            c: leader,
+            k: lost,
+            epoch: survey.epochs[leader * 64 + lost],
+        };
     }
     NextStore::Nothing
 }
 
-// The first store of a follower c, whose log is so long; the leader's is `limit` long: records blanked from its last slot down to the
-// lowest that differs; faulty entries below it; lost records below it; then the first missing slot, entry before record.
-fn follower_store<'a>(
-    cluster: &'a [u8],
-    conditions: &'a [u8; 448],
-    epochs: &'a [u32; 448],
-    m: usize,
-    leader: usize,
-    limit: usize,
-    c: usize,
-    len: usize,
-) -> NextStore
-    requires { ⌜ (m ≤ 64) × (leader < 7) × (c < 7) × (limit ≤ m) × (len ≤ m) × ImageFits m (length (now cluster)) c × ImageFits m (length (now cluster)) leader ⌝ }
-    ensures { λ r. ⌜ ((S : Setting) → S .m ≡ m → S .leader ≡ leader
-        → Looked m (viewsIn S (now (cluster .entry)) leader) leader limit (now (conditions .entry)) (now (epochs .entry))
-        → Looked m (viewsIn S (now (cluster .entry)) c) c len (now (conditions .entry)) (now (epochs .entry))
-        → storeOf r ≡ followerStore S (viewsIn S (now (cluster .entry))) (unlike S (decode (S .n) (S .m) (now (cluster .entry))) c) c) ⌝ }
+// The first missing slot of a follower c, entry before record; nothing if its log is as long as the leader's.
+fn missing_store(cluster: &[u8], survey: Survey, shape: Shape, c: usize) -> NextStore
+    requires { ⌜ Answering shape survey (length (now cluster)) c ⌝ }
+    ensures { λ r. ⌜ ((S : Setting) → Sees S (now (cluster .entry)) shape survey
+        → storeOf r ≡ missingStore S (viewsIn S (now (cluster .entry))) (unlike S (clusterIn S (now (cluster .entry))) c) c) ⌝ }
 {
-    let kept = first_differing(epochs, leader, limit, c, len);
-    if kept < len {
-        return NextStore::Blank(c, len - 1);
-    }
-    let faulty = first_with(conditions, c, 3, kept);
-    if faulty < kept {
-        return NextStore::Entry(c, faulty, leader);
-    }
-    let lost = first_with(conditions, c, 2, kept);
-    if lost < kept {
-        return NextStore::Record(c, lost, epochs[c * 64 + lost]);
-    }
-    if limit <= len {
+    let leader = shape.leader;
+    let k = survey.lengths[c];
+    if survey.lengths[leader] <= k {
         return NextStore::Nothing;
     }
-    if entry_differs(cluster, m, leader, c, len) {
-        return NextStore::Entry(c, len, leader);
+    if !entry_differs(cluster, shape, c, k) {
+        let epoch = survey.epochs[leader * 64 + k];
+        return NextStore::Record { c, k, epoch };
     }
-    NextStore::Record(c, len, epochs[leader * 64 + len])
+    NextStore::Entry {
+        c,
+        k,
+        donor: leader,
+    }
+}
+
+// The first store of a follower c: records blanked from its last slot down to the lowest that differs; faulty entries below it; lost
+// records below it; then the first missing slot.
+fn follower_store(cluster: &[u8], survey: Survey, shape: Shape, c: usize) -> NextStore
+    requires { ⌜ Answering shape survey (length (now cluster)) c ⌝ }
+    ensures { λ r. ⌜ ((S : Setting) → Sees S (now (cluster .entry)) shape survey
+        → storeOf r ≡ followerStore S (viewsIn S (now (cluster .entry))) (unlike S (clusterIn S (now (cluster .entry))) c) c) ⌝ }
+{
+    let leader = shape.leader;
+    let limit = survey.lengths[leader];
+    let length = survey.lengths[c];
+    let kept = first_differing(&survey.epochs, leader, limit, c, length);
+    if kept < length {
+        return NextStore::Blank { c, k: length - 1 };
+    }
+    let faulty = first_with(&survey.conditions, c, condition::FAULTY, kept);
+    if faulty < kept {
+        return NextStore::Entry {
+            c,
+            k: faulty,
+            donor: leader,
+        };
+    }
+    let lost = first_with(&survey.conditions, c, condition::RECORD_LOST, kept);
+    if lost < kept {
+        return NextStore::Record {
+            c,
+            k: lost,
+            epoch: survey.epochs[c * 64 + lost],
+        };
+    }
+    missing_store(cluster, survey, shape, c)
 }
 
 // What replica c has still to get: nothing if it is the leader or does not answer.
-fn due_store<'a>(
-    cluster: &'a [u8],
-    readable: u32,
-    lengths: &'a [usize; 7],
-    conditions: &'a [u8; 448],
-    epochs: &'a [u32; 448],
-    m: usize,
-    leader: usize,
-    c: usize,
-) -> NextStore
-    requires { ⌜ (m ≤ 64) × (leader < 7) × (c < 7) × (getD (now lengths) leader 0 ≤ m) × (has readable c ≡ true → getD (now lengths) c 0 ≤ m)
-        × ImageFits m (length (now cluster)) c × ImageFits m (length (now cluster)) leader ⌝ }
-    ensures { λ r. ⌜ ((S : Setting) (n : ℕ) → S .m ≡ m → leader < n → c < n
-        → SurveyOf S (viewsIn S (now (cluster .entry))) n leader readable (now (lengths .entry)) (now (conditions .entry)) (now (epochs .entry))
-        → storeOf r ≡ due S (decode (S .n) (S .m) (now (cluster .entry))) c) ⌝ }
+fn due_store(cluster: &[u8], survey: Survey, shape: Shape, c: usize) -> NextStore
+    requires { ⌜ InRange shape survey (length (now cluster)) × (c < shape .n) ⌝ }
+    ensures { λ r. ⌜ ((S : Setting) → Sees S (now (cluster .entry)) shape survey → storeOf r ≡ due S (clusterIn S (now (cluster .entry))) c) ⌝ }
 {
+    let leader = shape.leader;
     if c == leader {
         return NextStore::Nothing;
     }
-    if !survey::sets::contains(readable, c) {
+    if !contains(survey.readable, c) {
         return NextStore::Nothing;
     }
-    let limit = lengths[leader];
-    let len = lengths[c];
-    follower_store(cluster, conditions, epochs, m, leader, limit, c, len)
+    follower_store(cluster, survey, shape, c)
 }
 
 // Whether there is a store.
@@ -204,26 +221,15 @@ pub fn is_outstanding(store: NextStore) -> bool
 }
 
 // The first store of the followers, by number, where none below `from` has one.
-pub fn followers_store<'a>(
-    cluster: &'a [u8],
-    readable: u32,
-    lengths: &'a [usize; 7],
-    conditions: &'a [u8; 448],
-    epochs: &'a [u32; 448],
-    n: usize,
-    m: usize,
-    leader: usize,
-    from: usize,
-) -> NextStore
-    requires { ⌜ InRange n m leader readable (now lengths) (length (now cluster)) × (from ≤ n) ⌝ }
-    ensures { λ r. ⌜ ((S : Setting) → S .m ≡ m
-        → SurveyOf S (viewsIn S (now (cluster .entry))) n leader readable (now (lengths .entry)) (now (conditions .entry)) (now (epochs .entry))
-        → ((j : ℕ) → j < from → isSome (due S (decode (S .n) (S .m) (now (cluster .entry))) j) ≡ false)
-        → storeOf r ≡ followersStore S (decode (S .n) (S .m) (now (cluster .entry)))) ⌝ }
+pub fn followers_store(cluster: &[u8], survey: Survey, shape: Shape, from: usize) -> NextStore
+    requires { ⌜ InRange shape survey (length (now cluster)) × (from ≤ shape .n) ⌝ }
+    ensures { λ r. ⌜ ((S : Setting) → Sees S (now (cluster .entry)) shape survey
+        → ((j : ℕ) → j < from → isSome (due S (clusterIn S (now (cluster .entry))) j) ≡ false)
+        → storeOf r ≡ followersStore S (clusterIn S (now (cluster .entry)))) ⌝ }
 {
     let mut c = from;
-    while c < n {
-        let store = due_store(cluster, readable, lengths, conditions, epochs, m, leader, c);
+    while c < shape.n {
+        let store = due_store(cluster, survey, shape, c);
         if is_outstanding(store) {
             return store;
         }
@@ -233,44 +239,14 @@ pub fn followers_store<'a>(
 }
 
 // The first store of a ready plan: the leader's before the followers'.
-pub fn first_store(
-    cluster: &[u8],
-    survey: Survey,
-    plan: Plan,
-    n: usize,
-    m: usize,
-    leader: usize,
-) -> NextStore
-    requires { ⌜ InRange n m leader (survey .readable) (survey .lengths) (length (now cluster)) × (plan .end ≤ 64) ⌝ }
-    ensures { λ r. ⌜ ((S : Setting) → S .m ≡ m
-        → SurveyOf S (viewsIn S (now (cluster .entry))) n leader (survey .readable) (survey .lengths) (survey .conditions) (survey .epochs)
-        → Planned S (viewsIn S (now (cluster .entry))) (plan .bytes) (plan .end) (plan .waiting)
-        → storeOf r ≡ (leaderStore S (viewsIn S (now (cluster .entry))) or followersStore S (decode (S .n) (S .m) (now (cluster .entry))))) ⌝ }
+pub fn first_store(cluster: &[u8], survey: Survey, plan: Plan, shape: Shape) -> NextStore
+    requires { ⌜ InRange shape survey (length (now cluster)) × (plan .end ≤ 64) ⌝ }
+    ensures { λ r. ⌜ ((S : Setting) → Sees S (now (cluster .entry)) shape survey → PlanIs S (viewsIn S (now (cluster .entry))) plan
+        → storeOf r ≡ (leaderStore S (viewsIn S (now (cluster .entry))) or followersStore S (clusterIn S (now (cluster .entry))))) ⌝ }
 {
-    let bytes = plan.bytes;
-    let lengths = survey.lengths;
-    let conditions = survey.conditions;
-    let epochs = survey.epochs;
-    let store = leader_store(
-        &bytes,
-        &conditions,
-        &epochs,
-        leader,
-        lengths[leader],
-        plan.end,
-    );
+    let store = leader_store(survey, plan, shape.leader);
     if is_outstanding(store) {
         return store;
     }
-    followers_store(
-        cluster,
-        survey.readable,
-        &lengths,
-        &conditions,
-        &epochs,
-        n,
-        m,
-        leader,
-        0,
-    )
+    followers_store(cluster, survey, shape, 0)
 }

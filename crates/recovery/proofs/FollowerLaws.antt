@@ -1,8 +1,7 @@
 -- What a replica has still to get, and the first of the followers' stores, as the code comes to them.
 use Prim.Native.Nat.{ℕ, _≤_, _<_}
-use mathlib.Core.Path.{_≡_, refl, sym, ap, _∙_}
-use mathlib.Core.Bool.{Bool, true, false, cond, not, _&&_}
-use mathlib.Core.List.{List}
+use mathlib.Core.Path.{_≡_, sym, ap, _∙_}
+use mathlib.Core.Bool.{true, false, cond, not}
 use mathlib.Core.Option.{Option, none, some}
 use native.Mathlib.Omega.{arith}
 use lib.Dec.{eqb, ltb}
@@ -12,33 +11,40 @@ use Rattle.search.specs.Search.{lowest}
 use Rattle.search.proofs.SearchLaws.{lowest-is}
 use Rattle.slices.specs.Parts.{Bytes}
 use Rattle.slices.proofs.SameLaws.{and-off}
-use Rattle.image.specs.Cluster.{Cluster, imageAt, decode}
+use Rattle.image.specs.View.{View}
+use Rattle.image.specs.Cluster.{Cluster, decode}
 use Rattle.image.proofs.ClusterLaws.{image-fits}
-use Rattle.planner.specs.Setting.{Setting, has, viewsOf}
+use Rattle.planner.specs.Setting.{Setting, has}
 use Rattle.planner.specs.Rules.{answers}
 use Rattle.planner.specs.Plan.{viewsIn}
-use Rattle.planner.specs.Survey.{SurveyOf}
+use Rattle.planner.specs.Survey.{SurveyIs}
+use Rattle.planner.specs.declared.Survey.{Survey}
 use Rattle.protocol.specs.Store.{Store}
 use Rattle.protocol.specs.Recovery.{_or_, followerStore, isSome, firstOf, unlike, due, followersStore}
 use Rattle.image.specs.Cluster.{ImageFits}
 use Rattle.recovery.specs.Look.{Looked, InRange}
+use Rattle.recovery.specs.declared.Shape.{Shape}
 use Rattle.protocol.proofs.Slots.{leader-fits}
 
 -- ---- one replica
+
+module _ {S : Setting} {W : ℕ → View} {n leader : ℕ} {s : Survey} (v : SurveyIs S W n leader s) where
+  pub looked : {m : ℕ} → S .m ≡ m → (c : ℕ) → c < n → W c .readable ≡ true → Looked m (W c) c (getD (s .lengths) c 0) (s .conditions) (s .epochs)
+  looked em c h r = rw (← em) (record {
+    length-is = v .surveyed .length-is c h r;
+    log-fits = v .logs-fit c;
+    condition-is = λ k l. v .surveyed .condition-is c k h l r;
+    epoch-is = λ k l. v .surveyed .epoch-is c k h l r;
+  })
+
+  -- the leader's
+  pub looked-leader : {m : ℕ} → S .m ≡ m → Looked m (W leader) leader (getD (s .lengths) leader 0) (s .conditions) (s .epochs)
+  looked-leader em = looked em leader (v .leader-below) (v .leader-reads)
 
 module _ (S : Setting) (b : Bytes) where
   pub log-within : (c : ℕ) → viewsIn S b c .length ≤ S .m
   unfolding viewsIn
   log-within c = leader-fits S (decode (S .n) (S .m) b) c
-
-  pub looked : {n leader readable : ℕ} {lengths conditions epochs : List ℕ} → SurveyOf S (viewsIn S b) n leader readable lengths conditions epochs
-      → {m : ℕ} → S .m ≡ m → (c : ℕ) → c < n → viewsIn S b c .readable ≡ true → Looked m (viewsIn S b c) c (getD lengths c 0) conditions epochs
-  looked s em c h r = rw (← em) (record {
-    length-is = s .surveyed .length-is c h r;
-    log-fits = log-within c;
-    condition-is = λ k l. s .surveyed .condition-is c k h l r;
-    epoch-is = λ k l. s .surveyed .epoch-is c k h l r;
-  })
 
   module _ (c : ℕ) where
     pub due-leader : (leader : ℕ) → S .leader ≡ leader → c ≡ leader → none ≡ due S (decode (S .n) (S .m) b) c
@@ -89,5 +95,5 @@ or-follower (some s) a b p e t f = absurd (let z : _≡_ {A = ℕ} 0 1 = cc in o
 
 -- ---- the images lie in the buffer
 
-pub image-within : {n m leader readable : ℕ} {lengths : List ℕ} {size : ℕ} → InRange n m leader readable lengths size → (c : ℕ) → c < n → ImageFits m size c
-image-within {n} {m} s c h = omega (arith, image-fits n m c h, s .size-is)
+pub image-within : {shape : Shape} {s : Survey} {size : ℕ} → InRange shape s size → (c : ℕ) → c < shape .n → ImageFits (shape .m) size c
+image-within {shape} v c h = omega (arith, image-fits (shape .n) (shape .m) c h, v .size-is)

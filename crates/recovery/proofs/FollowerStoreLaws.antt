@@ -1,7 +1,7 @@
 -- A follower's first store, as the code comes to it.
 use Prim.Native.Nat.{ℕ, pred, _+_, _*_, _-_, _≤_, _<_}
 use mathlib.Core.Path.{_≡_, sym, _∙_}
-use mathlib.Core.Bool.{Bool, true, false, cond, not, _&&_}
+use mathlib.Core.Bool.{Bool, true, false, not, _&&_}
 use mathlib.Core.List.{List}
 use mathlib.Core.Option.{Option, none, some}
 use native.Mathlib.Omega.{arith}
@@ -15,7 +15,7 @@ use Rattle.planner.specs.Rules.{isFaulty, isRecordLost}
 use Rattle.protocol.specs.Store.{Store, storeEntry, storeRecord, storeBlank}
 use Rattle.protocol.specs.Recovery.{_or_, ifBelow, differs, firstDiffering, followerStore}
 use Rattle.protocol.proofs.ChainLaws.{or-first, or-second, below-some, above-none}
-use Rattle.recovery.specs.Look.{Looked}
+use Rattle.recovery.specs.Look.{Looked, missingStore}
 use Rattle.recovery.proofs.LookLaws.{lost-found, faulty-found, differing-found}
 
 module _ (S : Setting) (W : ℕ → View) (other : Bool) (leader c : ℕ) where
@@ -41,7 +41,7 @@ module _ (S : Setting) (W : ℕ → View) (other : Bool) (leader c : ℕ) where
   rewritten = ifBelow missed differing (storeRecord c missed (W c .epoch missed))
 
   abbrev added : Option Store
-  added = ifBelow own (W leader .length) (cond other (storeEntry c own leader) (storeRecord c own (W leader .epoch own)))
+  added = missingStore S W other c
 
   module _ (el : S .leader ≡ leader) (m limit length : ℕ) (conditions epochs : List ℕ)
       (x : Looked m (W leader) leader limit conditions epochs) (y : Looked m (W c) c length conditions epochs)
@@ -102,19 +102,28 @@ module _ (S : Setting) (W : ℕ → View) (other : Bool) (leader c : ℕ) where
           not-rewritten : rewritten ≡ none
           not-rewritten = let a = d-is in let b = missed-is i in above-none missed differing _ (omega arith)
 
-          past-records : {o : Option Store} → o ≡ added → o ≡ followerStore S W other c
+          pub past-records : {o : Option Store} → o ≡ added → o ≡ followerStore S W other c
           past-records h = past-entries (or-second rewritten added _ not-rewritten h)
 
-          pub follower-rests : limit ≤ length → none ≡ followerStore S W other c
-          follower-rests h = let a = x .length-is in let b = y .length-is in past-records (sym (above-none own (W leader .length) _ (omega arith)))
+-- the first missing slot, if the log ends before the leader's
+module _ (S : Setting) (W : ℕ → View) (other : Bool) (leader c : ℕ) (el : S .leader ≡ leader) (m limit length : ℕ) (conditions epochs : List ℕ)
+    (x : Looked m (W leader) leader limit conditions epochs) (y : Looked m (W c) c length conditions epochs) where
+  pub missing-none : limit ≤ length → none ≡ missingStore S W other c
+  missing-none h =
+      let a = x .length-is in
+      let b = y .length-is in
+      rw el (sym (above-none (W c .length) (W leader .length) _ (omega arith)))
 
-          pub follower-fills : length < limit → other ≡ true → some (storeEntry c length leader) ≡ followerStore S W other c
-          follower-fills h t = let a = x .length-is in let b = y .length-is in past-records (rw (t, b) (sym (below-some own (W leader .length) _ (omega arith))))
+  pub missing-entry : length < limit → other ≡ true → some (storeEntry c length leader) ≡ missingStore S W other c
+  missing-entry h t =
+      let a = x .length-is in
+      let b = y .length-is in
+      rw (el, t, b) (sym (below-some (W c .length) (W leader .length) _ (omega arith)))
 
-          pub follower-appends : length < limit → other ≡ false → some (storeRecord c length (getD epochs (leader * 64 + length) 0)) ≡ followerStore S W other c
-          follower-appends h t =
-              let a = x .length-is in
-              let b = y .length-is in
-              let v = x .log-fits in
-              let q = x .epoch-is length (omega arith) in
-              past-records (rw (q, t, b) (sym (below-some own (W leader .length) _ (omega arith))))
+  pub missing-record : length < limit → other ≡ false → some (storeRecord c length (getD epochs (leader * 64 + length) 0)) ≡ missingStore S W other c
+  missing-record h t =
+      let a = x .length-is in
+      let b = y .length-is in
+      let v = x .log-fits in
+      let q = x .epoch-is length (omega arith) in
+      rw (q, el, t, b) (sym (below-some (W c .length) (W leader .length) _ (omega arith)))

@@ -1,6 +1,6 @@
 -- What is found in a survey's numbers is what is seen of the replicas.
-use Prim.Native.Nat.{ℕ, suc, _+_, _*_, _-_, _≤_, _<_}
-use mathlib.Core.Path.{_≡_, refl, sym, ap, _∙_}
+use Prim.Native.Nat.{ℕ, suc, _+_, _*_, _≤_, _<_}
+use mathlib.Core.Path.{_≡_, refl, _∙_}
 use mathlib.Core.Bool.{Bool, true, not, _&&_}
 use mathlib.Core.List.{List}
 use native.Mathlib.Omega.{arith}
@@ -14,7 +14,7 @@ use Rattle.image.specs.View.{conditionNumber}
 use Rattle.image.proofs.ScannedLaws.{taken-at}
 use Rattle.planner.specs.Setting.{Setting}
 use Rattle.planner.proofs.RuleLaws.{end-le}
-use Rattle.planner.specs.Rules.{isFaulty, isRecordLost, isTruncate, Rule, Keep, Fetch, Truncate, Wait, isFetch, rule, donor, end}
+use Rattle.planner.specs.Rules.{isFaulty, isRecordLost, Rule, Keep, Fetch, Truncate, Wait, isFetch, rule, donor, end}
 use Rattle.planner.specs.Plan.{keptByte, ruleByte, planByte, planBytes}
 use Rattle.planner.specs.Survey.{Planned}
 use Rattle.protocol.specs.Recovery.{differs, firstDiffering}

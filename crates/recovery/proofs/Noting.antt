@@ -1,5 +1,5 @@
 -- A run that notes its stores: it is underway, and its survey is that of the cluster as it is now.
-use Prim.Native.Nat.{ℕ, _+_, _-_, _≤_, _<_}
+use Prim.Native.Nat.{ℕ, _+_, _≤_, _<_}
 use mathlib.Core.Path.{_≡_, refl, _∙_}
 use mathlib.Core.Bool.{true, false}
 use mathlib.Core.Option.{some}
@@ -23,16 +23,18 @@ use Rattle.recovery.proofs.OutcomeLaws.{slots-few, store-fits, ready-ra
 use Rattle.recovery.proofs.Underway.{Underway, underway-start, underway-more, underway-rests, underway-recovered, underway-ends, underway-answers, underway-size}
 use Rattle.recovery.proofs.ReadySurveyLaws.{store-within, replica-within, rest-after, ready-after}
 
--- from b₀ and its first store, with a budget; so many made; the bytes as they are now, their survey, and the store that is outstanding
-pub record Noting (N : Numbers) (b₀ : Bytes) (t₀ : NextStore) (budget made : ℕ) (b : Bytes) (s : Survey) (t : NextStore) : Type 0 where
+-- from b₀ and its first store, with a leader, from 0, and a budget; so many made; the bytes as they are now, their survey, and the store that
+-- is outstanding
+pub record Noting (N : Numbers) (b₀ : Bytes) (t₀ : NextStore) (leader budget made : ℕ) (b : Bytes) (s : Survey) (t : NextStore) : Type 0 where
   pub began : OutlookIs N b₀ (outlook.Ready t₀)
   pub underway : Underway N b₀ budget made b t
-  pub surveys : ReadySurvey N b s
+  pub surveys : ReadySurvey N b leader s
 
-pub noting-start : (N : Numbers) (b : Bytes) (budget : ℕ) (s : Survey) (t : NextStore) → OutlookIs N b (outlook.Ready t) → ReadySurvey N b s → Noting N b t budget 0 b s t
-noting-start N b budget s t i v = record { began = i; underway = underway-start N b budget t (i .0) (i .2); surveys = v }
+pub noting-start : (N : Numbers) (b : Bytes) (leader budget : ℕ) (s : Survey) (t : NextStore) → OutlookIs N b (outlook.Ready t) → ReadySurvey N b leader s
+    → Noting N b t leader budget 0 b s t
+noting-start N b leader budget s t i v = record { began = i; underway = underway-start N b budget t (i .0) (i .2); surveys = v }
 
-module _ (N : Numbers) {b₀ b : Bytes} {t₀ t : NextStore} {budget made : ℕ} {s : Survey} (g : Noting N b₀ t₀ budget made b s t) where
+module _ (N : Numbers) {b₀ b : Bytes} {t₀ t : NextStore} {leader budget made : ℕ} {s : Survey} (g : Noting N b₀ t₀ leader budget made b s t) where
   pub noting-fits : (N .m ≤ 64) × StoreFits (N .m) (length b) t
   noting-fits = let e = g .surveys .accepts in (slots-few N b e, store-fits N b e t (g .underway .is-next))
 
@@ -41,7 +43,7 @@ module _ (N : Numbers) {b₀ b : Bytes} {t₀ t : NextStore} {budget made : ℕ}
 
   module _ (some-left : isSome (storeOf t) ≡ true) {a : Bytes} (x : a ≡ after (storeOf t) b (λ u. afterStoreBytes (N .m) u b))
       {r : Survey} (f : (u : Store) → storeOf t ≡ some u → Noted u s r) where
-    pub noted-ready : ReadySurvey N a r
+    pub noted-ready : ReadySurvey N a leader r
     noted-ready = ready-after N b (g .surveys) (storeOf t) (g .underway .is-next) some-left x f
 
     -- replica c is the one that the store was made on
@@ -50,11 +52,12 @@ module _ (N : Numbers) {b₀ b : Bytes} {t₀ t : NextStore} {budget made : ℕ}
       unfolding settingOf
       noted-replica = replica-within N b (g .surveys) (storeOf t) (g .underway .is-next) some-left q
 
-      pub noted-rests : (c ≡ N .leader - 1 → ⊥) → RestBelow (named N) (decode (N .n) (N .m) a) c
+      pub noted-rests : (c ≡ leader → ⊥) → RestBelow (named N) (decode (N .n) (N .m) a) c
       unfolding settingOf
       noted-rests = rest-after N b (g .surveys) (storeOf t) (g .underway .is-next) some-left q x
 
-    pub noting-more : {v : NextStore} → made < budget → (ReadySurvey N a r → storeOf v ≡ nextIn (named N) a) → Noting N b₀ t₀ budget (made + 1) a r v
+    pub noting-more : {v : NextStore} → made < budget → (ReadySurvey N a leader r → storeOf v ≡ nextIn (named N) a)
+        → Noting N b₀ t₀ leader budget (made + 1) a r v
     noting-more h next = record {
       began = g .began;
       underway = underway-more N (g .underway) h some-left x (λ e. next noted-ready);

@@ -1,27 +1,23 @@
 -- Step and run answer by what stands of the recovery.
-use Prim.Native.Nat.{ℕ, zero, suc, pred, _+_, _≤_, _<_}
-use mathlib.Core.Path.{_≡_, refl, sym, ap, _∙_}
-use mathlib.Core.Bool.{true, false}
+use Prim.Native.Nat.{ℕ, suc, pred, _+_, _≤_, _<_}
+use mathlib.Core.Path.{_≡_, sym, ap, _∙_}
 use mathlib.Core.Option.{Option}
 use native.Mathlib.Omega.{arith}
-use native.Mathlib.Numerals.{add-one}
 use lib.Dec.{leb}
 use lib.ListN.{length}
 use borrow.Author.Tests.{leb-true}
 use Rattle.slices.specs.Parts.{Bytes}
 use Rattle.slices.proofs.SameLaws.{and-right}
 use Rattle.image.specs.View.{isSlots}
-use Rattle.image.specs.Image.{imageSize}
-use Rattle.image.specs.Cluster.{imageAt, decode}
+use Rattle.image.specs.Cluster.{decode}
 use Rattle.image.proofs.ClusterLaws.{image-fits}
-use Rattle.planner.specs.Setting.{Setting, settingOf}
-use Rattle.planner.specs.Rules.{Waiting, Ready, answer, end}
-use Rattle.planner.specs.Plan.{viewsIn}
+use Rattle.planner.specs.Setting.{settingOf}
+use Rattle.planner.specs.Rules.{Waiting, Ready, answer}
 use Rattle.protocol.specs.Store.{Store, storeEntry, storeRecord, storeBlank, storeReplica, storeSlot, storeKind}
-use Rattle.protocol.specs.Recovery.{after, isSome}
+use Rattle.protocol.specs.Recovery.{after}
 use Rattle.protocol.specs.StepBytes.{afterStoreBytes, nextIn, stepsBytes, storesBytes}
 use Rattle.protocol.specs.Call.{step, run, Numbers, named, refusalIn}
-use Rattle.protocol.specs.CallResult.{Result, refused, waiting, stored, recovered, spent, stepResult, runResult, callResult, callBytes}
+use Rattle.protocol.specs.CallResult.{Result, refused, waiting, stored, recovered, stepResult, runResult, callResult, callBytes}
 use Rattle.image.specs.Cluster.{ImageFits}
 use Rattle.recovery.specs.NextStore.{storeOf, StoreFits}
 use Rattle.recovery.specs.Answers.{OutlookIs}
@@ -88,18 +84,21 @@ pub answer-nothing : {s : NextStore} → s ≡ Nothing → recovered 0 ≡ stepR
 unfolding stepResult
 answer-nothing e = rw e
 
-module _ (c k : ℕ) where
-  pub answer-entry : {s : NextStore} {d : ℕ} → s ≡ Entry c k d → stored (c + 1) (k + 1) 1 ≡ stepResult (storeOf s)
-  unfolding stepResult storeReplica storeSlot storeKind
-  answer-entry e = rw (e, add-one c, add-one k)
+pub answer-stored : {a b : ℕ} (c k kind : ℕ) → a ≡ suc c → b ≡ suc k → stored a b kind ≡ stored (suc c) (suc k) kind
+answer-stored c k kind e d = rw (e, d)
 
-  pub answer-record : {s : NextStore} {f : ℕ} → s ≡ Record c k f → stored (c + 1) (k + 1) 2 ≡ stepResult (storeOf s)
+module _ (c k kind : ℕ) {r : Result} (w : r ≡ stored (suc c) (suc k) kind) where
+  pub answer-entry : {s : NextStore} {d : ℕ} → s ≡ Entry c k d → kind ≡ 1 → r ≡ stepResult (storeOf s)
   unfolding stepResult storeReplica storeSlot storeKind
-  answer-record e = rw (e, add-one c, add-one k)
+  answer-entry e i = w ∙ rw (e, i)
 
-  pub answer-blank : {s : NextStore} → s ≡ Blank c k → stored (c + 1) (k + 1) 3 ≡ stepResult (storeOf s)
+  pub answer-record : {s : NextStore} {f : ℕ} → s ≡ Record c k f → kind ≡ 2 → r ≡ stepResult (storeOf s)
   unfolding stepResult storeReplica storeSlot storeKind
-  answer-blank e = rw (e, add-one c, add-one k)
+  answer-record e i = w ∙ rw (e, i)
+
+  pub answer-blank : {s : NextStore} → s ≡ Blank c k → kind ≡ 3 → r ≡ stepResult (storeOf s)
+  unfolding stepResult storeReplica storeSlot storeKind
+  answer-blank e i = w ∙ rw (e, i)
 
 -- ---- by what stands of the recovery
 

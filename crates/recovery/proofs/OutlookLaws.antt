@@ -1,5 +1,5 @@
 -- What stands of a recovery, as the code comes to it.
-use Prim.Native.Nat.{ℕ, pred, _+_, _-_, _≤_, _<_}
+use Prim.Native.Nat.{ℕ, pred, _+_, _≤_, _<_}
 use mathlib.Core.Path.{_≡_, refl, sym, ap, _∙_}
 use mathlib.Core.Bool.{true}
 use mathlib.Core.List.{List}
@@ -11,43 +11,43 @@ use Rattle.image.specs.Cluster.{decode}
 use Rattle.planner.specs.Setting.{settingOf}
 use Rattle.planner.specs.Rules.{Waiting, Ready, answer, end, firstWaiting}
 use Rattle.planner.specs.Plan.{viewsIn}
-use Rattle.planner.specs.Survey.{SurveyOf, Planned}
+use Rattle.planner.specs.Survey.{SurveyIs, Planned}
+use Rattle.planner.specs.declared.Survey.{Survey}
 use Rattle.protocol.specs.Recovery.{_or_, leaderStore, followersStore, ifReady, next}
 use Rattle.protocol.specs.StepBytes.{nextIn}
 use Rattle.protocol.specs.Call.{Numbers, named, refusalIn}
 use Rattle.recovery.specs.NextStore.{storeOf}
-use Rattle.recovery.specs.Look.{InRange}
+use Rattle.recovery.specs.Look.{InRange, Sees}
+use Rattle.recovery.specs.declared.Shape.{Shape}
 use Rattle.recovery.specs.Answers.{OutlookIs}
 use Rattle.recovery.specs.declared.NextStore.{NextStore}
 use Rattle.recovery.specs.declared.Outlook.the-variants as outlook
 use Rattle.planner.proofs.RuleLaws.{end-le}
-use Rattle.planner.proofs.CallLaws.{leader-first}
 use Rattle.recovery.proofs.FollowerLaws.{log-within}
 use Rattle.protocol.proofs.CallLaws.{accepted}
 
--- the leader's number is from 1
-pub from-one : (N : Numbers) (b : Bytes) → refusalIn N b ≡ 0 → 1 ≤ N .leader
-from-one N b e = leader-first (N .n) (N .m) (N .leader) (N .present) b e
+-- a call's shape, its leader counted from 0
+abbrev pub shapeOf : Numbers → ℕ → Shape
+shapeOf N leader = record { n = N .n; m = N .m; leader = leader }
 
-pub named-m : (N : Numbers) → named N .m ≡ N .m
-unfolding settingOf
-named-m N = refl
-
-module _ (N : Numbers) (b : Bytes) (e : refusalIn N b ≡ 0) {readable : ℕ} {lengths conditions epochs : List ℕ}
-    (s : SurveyOf (named N) (viewsIn (named N) b) (N .n) (N .leader - 1) readable lengths conditions epochs) where
-  log-is : (c : ℕ) → c < N .n → viewsIn (named N) b c .readable ≡ true → getD lengths c 0 ≤ N .m
+module _ (N : Numbers) (b : Bytes) (e : refusalIn N b ≡ 0) {leader : ℕ} {s : Survey} (v : SurveyIs (named N) (viewsIn (named N) b) (N .n) leader s) where
+  pub sees : Sees (named N) b (shapeOf N leader) s
   unfolding settingOf
-  log-is c h r = omega (arith, s .surveyed .length-is c h r, log-within (named N) b c)
+  sees = record { slots-are = refl; survey-is = v }
 
-  pub in-range : InRange (N .n) (N .m) (N .leader - 1) readable lengths (length b)
+  log-is : (c : ℕ) → c < N .n → viewsIn (named N) b c .readable ≡ true → getD (s .lengths) c 0 ≤ N .m
+  unfolding settingOf
+  log-is c h r = omega (arith, v .surveyed .length-is c h r, log-within (named N) b c)
+
+  pub in-range : InRange (shapeOf N leader) s (length b)
   unfolding settingOf
   in-range = record {
-    few = s .few;
-    slots-fit = s .slots-fit;
-    leader-below = s .leader-below;
+    few = v .few;
+    slots-fit = v .slots-fit;
+    leader-below = v .leader-below;
     size-is = accepted N b e .size;
-    leader-fits = log-is (N .leader - 1) (s .leader-below) (s .leader-reads);
-    log-fits = λ c h r. log-is c h (sym (s .surveyed .readable-is c h) ∙ r);
+    leader-fits = log-is leader (v .leader-below) (v .leader-reads);
+    log-fits = λ c h r. log-is c h (sym (v .surveyed .readable-is c h) ∙ r);
   }
 
   module _ {bytes : List ℕ} {final waiting : ℕ} (p : Planned (named N) (viewsIn (named N) b) bytes final waiting) where
@@ -57,7 +57,7 @@ module _ (N : Numbers) (b : Bytes) (e : refusalIn N b ≡ 0) {readable : ℕ} {l
         let a = p .end-is in
         let d = end-le (named N) (viewsIn (named N) b) in
         let l = log-within (named N) b (named N .leader) in
-        let k = s .slots-fit in
+        let k = v .slots-fit in
         omega arith
 
     leads : viewsIn (named N) b (named N .leader) .readable ≡ true

@@ -1,6 +1,6 @@
 -- The planner's answer, by whether it is refused, is the result of a plan call.
-use Prim.Native.Nat.{ℕ, zero, suc}
-use mathlib.Core.Path.{_≡_, refl, ap}
+use Prim.Native.Nat.{ℕ}
+use mathlib.Core.Path.{_≡_, refl}
 use mathlib.Core.Bool.{Bool, true, false, cond}
 use lib.Dec.{eqb}
 use Rattle.slices.specs.Parts.{Bytes}
@@ -10,7 +10,7 @@ use Rattle.planner.specs.Answers.{answered, planAnswer}
 use Rattle.planner.specs.declared.PlanAnswer.the-variants as plan-answer
 use Rattle.protocol.specs.StepBytes.{stepsBytes}
 use Rattle.protocol.specs.Call.{plan, Numbers, named, budgetOf, refusalOf}
-use Rattle.protocol.specs.CallResult.{Result, refused, readyResult, acceptedResult, callResult, callBytes}
+use Rattle.protocol.specs.CallResult.{refused, readyResult, acceptedResult, callResult, callBytes}
 use Rattle.recovery.specs.Answers.{planAnswerResult}
 
 answered-result : (a : Answer) → planAnswerResult (answered a) ≡ readyResult a

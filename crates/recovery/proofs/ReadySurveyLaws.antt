@@ -1,5 +1,5 @@
 -- A ready survey: the store that it shows is the next one, and noted, it is that of the cluster afterwards.
-use Prim.Native.Nat.{ℕ, _-_, _<_}
+use Prim.Native.Nat.{ℕ, _<_}
 use mathlib.Core.Path.{_≡_, refl, sym, ap, _∙_}
 use mathlib.Core.Bool.{true, true≢false}
 use mathlib.Core.Option.{Option, none, some}
@@ -28,7 +28,7 @@ use Rattle.recovery.proofs.OutcomeLaws.{slots-few}
 use Rattle.recovery.proofs.SeenAfterLaws.{next-seen}
 use Rattle.recovery.proofs.RestLaws.{rests-after}
 
-module _ (N : Numbers) (b : Bytes) {s : Survey} (v : ReadySurvey N b s) where
+module _ (N : Numbers) (b : Bytes) {leader : ℕ} {s : Survey} (v : ReadySurvey N b leader s) where
   abbrev S : Setting
   S = named N
 
@@ -80,9 +80,8 @@ module _ (N : Numbers) (b : Bytes) {s : Survey} (v : ReadySurvey N b s) where
       unfolding viewsIn
       answer-next = ap (λ (G : Cluster). answer S (viewsOf S G)) means ∙ step-law S F u low is-next .answers
 
-      rests-next : (storeReplica u ≡ N .leader - 1 → ⊥) → RestBelow S (decode (S .n) (S .m) a) (storeReplica u)
-      unfolding settingOf
-      rests-next q = rw means (rests-after S F u is-next (λ z. q (omega arith)))
+      rests-next : (storeReplica u ≡ leader → ⊥) → RestBelow S (decode (S .n) (S .m) a) (storeReplica u)
+      rests-next q = rw means (rests-after S F u is-next (λ z. q (z ∙ v .sees .leader-is)))
 
       accepts-next : refusalIn N a ≡ 0
       unfolding viewsIn settingOf
@@ -91,11 +90,11 @@ module _ (N : Numbers) (b : Bytes) {s : Survey} (v : ReadySurvey N b s) where
           let l : length a ≡ length b = rw y (w .size ∙ sym (accepted N b (v .accepts) .size)) in
           refusal-same N a b l (ap (λ (G : Cluster). viewsOf S G (S .leader) .readable) means ∙ step-law S F u low is-next .readables (S .leader)) ∙ v .accepts
 
-      ready-noted : {r : Survey} → Noted u s r → ReadySurvey N a r
+      ready-noted : {r : Survey} → Noted u s r → ReadySurvey N a leader r
       unfolding settingOf
       ready-noted f = record {
         accepts = accepts-next;
-        sees = rw views-next (f S (viewsIn S b) (N .n) (N .leader - 1) replica-below slot-below reads (v .sees));
+        sees = rw views-next (f S (viewsIn S b) (N .n) leader replica-below slot-below reads (v .sees));
         ready = ready-intro S (viewsIn S a) (ready-facts S (viewsIn S a) (end S (viewsIn S b)) (answer-next ∙ v .ready));
       }
 
@@ -110,14 +109,14 @@ module _ (N : Numbers) (b : Bytes) {s : Survey} (v : ReadySurvey N b s) where
     replica-within (some u) x h f = rw (f u refl) (replica-below u x)
 
     pub rest-after : {a : Bytes} (o : Option Store) → o ≡ nextIn S b → isSome o ≡ true → ((u : Store) → o ≡ some u → c ≡ storeReplica u)
-        → a ≡ after o b (λ u. afterStoreBytes (N .m) u b) → (c ≡ N .leader - 1 → ⊥) → RestBelow S (decode (S .n) (S .m) a) c
+        → a ≡ after o b (λ u. afterStoreBytes (N .m) u b) → (c ≡ leader → ⊥) → RestBelow S (decode (S .n) (S .m) a) c
     unfolding isSome after
     rest-after none x h f y q = absurd (true≢false (sym h))
     rest-after (some u) x h f y q = rw (f u refl) (rests-next u x _ y (λ z. q (f u refl ∙ z)))
 
   -- the survey that is noted is that of the cluster after the store
   pub ready-after : {a : Bytes} {r : Survey} (o : Option Store) → o ≡ nextIn S b → isSome o ≡ true
-      → a ≡ after o b (λ u. afterStoreBytes (N .m) u b) → ((u : Store) → o ≡ some u → Noted u s r) → ReadySurvey N a r
+      → a ≡ after o b (λ u. afterStoreBytes (N .m) u b) → ((u : Store) → o ≡ some u → Noted u s r) → ReadySurvey N a leader r
   unfolding isSome after
   ready-after none x h y f = absurd (true≢false (sym h))
   ready-after (some u) x h y f = ready-noted u x _ y (f u refl)

@@ -1,15 +1,21 @@
--- What the code of `next` is given of one replica: of use to its own functions only.
+-- For proofs only. What the code of `pick` is given of one replica and of a cluster.
 use Prim.Native.Nat.{ℕ, _+_, _*_, _<_, _≤_}
 use mathlib.Core.Path.{_≡_}
-use mathlib.Core.Bool.{true, false}
+use mathlib.Core.Bool.{Bool, true, false, cond}
 use mathlib.Core.List.{List}
-use mathlib.Core.Option.{none}
+use mathlib.Core.Option.{Option, none}
 use lib.ListN.{getD}
+use Rattle.slices.specs.Parts.{Bytes}
 use Rattle.image.specs.View.{View}
 use Rattle.image.specs.View.{conditionNumber}
-use Rattle.image.specs.Cluster.{Cluster, imageAt}
+use Rattle.image.specs.Cluster.{Cluster, imageAt, decode}
 use Rattle.planner.specs.Setting.{Setting, has, viewsOf}
-use Rattle.protocol.specs.Recovery.{leaderStore, isSome, due}
+use Rattle.planner.specs.Plan.{viewsIn}
+use Rattle.planner.specs.Survey.{SurveyIs}
+use Rattle.planner.specs.declared.Survey.{Survey}
+use Rattle.protocol.specs.Store.{Store, storeEntry, storeRecord}
+use Rattle.protocol.specs.Recovery.{ifBelow, leaderStore, isSome, due}
+use Rattle.recovery.specs.declared.Shape.{Shape}
 
 -- a survey's numbers of replica c are those of its view
 pub record Looked (m : ℕ) (v : View) (c length : ℕ) (conditions epochs : List ℕ) : Type 0 where
@@ -19,13 +25,34 @@ pub record Looked (m : ℕ) (v : View) (c length : ℕ) (conditions epochs : Lis
   pub epoch-is : (k : ℕ) → k < m → getD epochs (c * 64 + k) 0 ≡ v .epoch k
 
 -- the numbers of a survey lie in range: so many replicas of m slots in a buffer of that size, and no log longer than m
-pub record InRange (n m leader readable : ℕ) (lengths : List ℕ) (size : ℕ) : Type 0 where
-  pub few : n ≤ 7
-  pub slots-fit : m ≤ 64
-  pub leader-below : leader < n
-  pub size-is : size ≡ imageAt m n
-  pub leader-fits : getD lengths leader 0 ≤ m
-  pub log-fits : (c : ℕ) → c < n → has readable c ≡ true → getD lengths c 0 ≤ m
+pub record InRange (shape : Shape) (s : Survey) (size : ℕ) : Type 0 where
+  pub few : shape .n ≤ 7
+  pub slots-fit : shape .m ≤ 64
+  pub leader-below : shape .leader < shape .n
+  pub size-is : size ≡ imageAt (shape .m) (shape .n)
+  pub leader-fits : getD (s .lengths) (shape .leader) 0 ≤ shape .m
+  pub log-fits : (c : ℕ) → c < shape .n → has (s .readable) c ≡ true → getD (s .lengths) c 0 ≤ shape .m
+
+-- replica c answers, and its numbers too lie in range
+pub record Answering (shape : Shape) (s : Survey) (size c : ℕ) : Type 0 where
+  pub in-range : InRange shape s size
+  pub replica-below : c < shape .n
+  pub replica-reads : has (s .readable) c ≡ true
+
+-- a survey is that of the cluster in a buffer, for a setting of this shape
+pub record Sees (S : Setting) (b : Bytes) (shape : Shape) (s : Survey) : Type 0 where
+  pub slots-are : S .m ≡ shape .m
+  pub survey-is : SurveyIs S (viewsIn S b) (shape .n) (shape .leader) s
+
+-- the cluster in a buffer
+abbrev pub clusterIn : Setting → Bytes → Cluster
+clusterIn S b = decode (S .n) (S .m) b
+
+-- the last part of `followerStore`: the first missing slot of c, entry before record
+abbrev pub missingStore : Setting → (ℕ → View) → Bool → ℕ → Option Store
+missingStore S W other c =
+    ifBelow (W c .length) (W (S .leader) .length)
+    (cond other (storeEntry c (W c .length) (S .leader)) (storeRecord c (W c .length) (W (S .leader) .epoch (W c .length))))
 
 -- neither the leader nor a follower below c has a store outstanding
 pub record RestBelow (S : Setting) (F : Cluster) (c : ℕ) : Type 0 where

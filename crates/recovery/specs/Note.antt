@@ -1,5 +1,5 @@
--- What is seen of the replicas once a store has been made, by what was seen of them before.
-use Prim.Native.Nat.{ℕ, suc, _+_, _*_, _-_, _<_}
+-- For proofs only. What is seen of the replicas once a store has been made, by what was seen of them before.
+use Prim.Native.Nat.{ℕ, suc, _+_, _*_, _<_}
 use mathlib.Core.Path.{_≡_}
 use mathlib.Core.Bool.{true, cond}
 use lib.Dec.{ltb}
@@ -10,11 +10,12 @@ use Rattle.image.specs.View.{Condition, Unused, Whole, View}
 use Rattle.planner.specs.Setting.{Setting}
 use Rattle.planner.specs.Rules.{Ready, answer, end}
 use Rattle.planner.specs.Plan.{viewsIn}
-use Rattle.planner.specs.Survey.{SurveyOf}
+use Rattle.planner.specs.Survey.{SurveyIs}
 use Rattle.planner.specs.declared.Survey.{Survey}
 use Rattle.protocol.specs.Store.{Store, storeEntry, storeRecord, storeBlank, storeReplica, storeSlot}
 use Rattle.protocol.specs.Call.{Numbers, named, refusalIn}
 use Rattle.recovery.specs.Answers.{numbers}
+use Rattle.recovery.specs.declared.Shape.{Shape}
 
 -- a view with a log so long, and slot k in this condition and epoch
 unfoldable pub withSlot : View → ℕ → ℕ → Condition → ℕ → View
@@ -44,16 +45,20 @@ pub record SlotSet (s r : Survey) (c k l x e : ℕ) : Type 0 where
 abbrev pub Noted : Store → Survey → Survey → Type 0
 Noted t s r =
     (S : Setting) (W : ℕ → View) (n leader : ℕ) → storeReplica t < n → storeSlot t < S .m → W (storeReplica t) .readable ≡ true
-    → SurveyOf S W n leader (s .readable) (s .lengths) (s .conditions) (s .epochs)
-    → SurveyOf S (viewsAfter t W) n leader (r .readable) (r .lengths) (r .conditions) (r .epochs)
+    → SurveyIs S W n leader s → SurveyIs S (viewsAfter t W) n leader r
 
--- a survey of a cluster that is not refused, and whose plan is ready
-pub record ReadySurvey (N : Numbers) (b : Bytes) (s : Survey) : Type 0 where
+-- a survey of a cluster that is not refused, and whose plan is ready; the leader counts from 0
+pub record ReadySurvey (N : Numbers) (b : Bytes) (leader : ℕ) (s : Survey) : Type 0 where
   pub accepts : refusalIn N b ≡ 0
-  pub sees : SurveyOf (named N) (viewsIn (named N) b) (N .n) (N .leader - 1) (s .readable) (s .lengths) (s .conditions) (s .epochs)
+  pub sees : SurveyIs (named N) (viewsIn (named N) b) (N .n) leader s
   pub ready : answer (named N) (viewsIn (named N) b) ≡ Ready (end (named N) (viewsIn (named N) b))
 
--- the same, whatever the present set was
-pub record SomeReadySurvey (n m leader : ℕ) (b : Bytes) (s : Survey) : Type 0 where
+-- a call of this shape, by the leader's number and the present set
+abbrev pub numbersOf : Shape → ℕ → ℕ → Numbers
+numbersOf shape leading present = numbers (shape .n) (shape .m) leading present
+
+-- a ready survey of such a call, whatever its leader's number and its present set were
+pub record SomeReadySurvey (shape : Shape) (b : Bytes) (s : Survey) : Type 0 where
+  pub leading : ℕ
   pub present : ℕ
-  pub is : ReadySurvey (numbers n m leader present) b s
+  pub is : ReadySurvey (numbersOf shape leading present) b (shape .leader) s

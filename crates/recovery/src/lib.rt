@@ -2,13 +2,22 @@
 // `step`'s and `run`'s.
 ghost use Rattle.recovery.specs.PlanCall.{PlanCall};
 
-// The first store still outstanding, if there is one. An entry: replica, slot, and the replica that it is copied from. A record:
-// replica, slot and epoch. A record blanked: replica and slot. Replicas and slots count from 0.
+pub mod kind; // kind.rt: the kinds of a store by number
+
+// The first store still outstanding, if there is one: an entry copied from the donor's, a record, or a record blanked, at slot k of
+// replica c. All three count from 0.
 pub enum NextStore {
     Nothing,
-    Entry(usize, usize, usize),
-    Record(usize, usize, u32),
-    Blank(usize, usize),
+    Entry { c: usize, k: usize, donor: usize },
+    Record { c: usize, k: usize, epoch: u32 },
+    Blank { c: usize, k: usize },
+}
+
+// A cluster's n and m, and its leader, counted from 0.
+pub struct Shape {
+    pub n: usize,
+    pub m: usize,
+    pub leader: usize,
 }
 
 // What stands of a cluster's recovery: refused by this number; waiting, with the lowest waiting slot's number; or ready, with the first
@@ -19,10 +28,14 @@ pub enum Outlook {
     Ready(NextStore),
 }
 
-// A step's answer: the store that it made, by replica, slot and kind (1 entry, 2 record, 3 record blanked); document 01's settled; waiting,
-// with the lowest waiting slot; or the refusal. Replicas and slots by their numbers, from 1.
+// A step's answer: the store that it made, by replica, slot and kind (kind.rt); document 01's settled; waiting, with the lowest waiting
+// slot; or the refusal. Replicas and slots by their numbers, from 1.
 pub enum StepAnswer {
-    Stored(usize, usize, u8),
+    Stored {
+        replica: usize,
+        slot: usize,
+        kind: u8,
+    },
     Recovered,
     Waiting(usize),
     Refused(u8),

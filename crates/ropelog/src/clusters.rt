@@ -82,7 +82,11 @@ pub extern "C" fn rope_step(
         × (now (kind .exit) ≡ resultKind (stepCalled n m leading present (now (cluster .entry))) (now (kind .entry))) ⌝ }
 {
     match step::step_cluster(cluster, n, m, leading, present) {
-        recovery::StepAnswer::Stored(on, at, what) => {
+        recovery::StepAnswer::Stored {
+            replica: on,
+            slot: at,
+            kind: what,
+        } => {
             *status = 2;
             *replica = on;
             *slot = at;

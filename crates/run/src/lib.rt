@@ -1,5 +1,5 @@
 // A run: as many steps as its budget allows, counted.
-ghost use Prim.Native.Nat.{ℕ, _-_, _<_};
+ghost use Prim.Native.Nat.{ℕ, _<_};
 ghost use mathlib.Core.Path.{_≡_};
 ghost use mathlib.Core.Option.{some};
 ghost use Rattle.image.specs.Cluster.{decode};
@@ -10,7 +10,8 @@ ghost use Rattle.protocol.specs.CallResult.{runResult, callResult, callBytes};
 ghost use Rattle.recovery.specs.NextStore.{storeOf};
 ghost use Rattle.recovery.specs.Answers.{numbers, runAnswerResult};
 ghost use Rattle.recovery.specs.Look.{RestBelow};
-ghost use Rattle.recovery.specs.Note.{ReadySurvey, SomeReadySurvey};
+ghost use Rattle.recovery.specs.Note.{numbersOf, ReadySurvey, SomeReadySurvey};
+use decide::open_cluster;
 use decide::plan_survey;
 use note::note_store;
 use pick::first_store;
@@ -19,8 +20,8 @@ use pick::is_outstanding;
 use planner::Survey;
 use recovery::NextStore;
 use recovery::RunAnswer;
+use recovery::Shape;
 use store::make_store;
-use survey::cluster::view_cluster;
 
 // The replica that a store is made on.
 fn replica_of(store: NextStore) -> usize
@@ -28,42 +29,25 @@ fn replica_of(store: NextStore) -> usize
 {
     match store {
         NextStore::Nothing => 0,
-        NextStore::Entry(c, _slot, _donor) => c,
-        NextStore::Record(c, _slot, _epoch) => c,
-        NextStore::Blank(c, _slot) => c,
+        NextStore::Entry { c, k: _, donor: _ } => c,
+        NextStore::Record { c, k: _, epoch: _ } => c,
+        NextStore::Blank { c, k: _ } => c,
     }
 }
 
 // The first store still outstanding of a cluster with a ready plan, by its survey, once a store on replica c has been made. If c is a
 // follower, the leader and the followers before c have none.
-fn next_store(
-    cluster: &[u8],
-    survey: Survey,
-    n: usize,
-    m: usize,
-    leader: usize,
-    c: usize,
-) -> NextStore
-    requires { ⌜ SomeReadySurvey n m leader (now cluster) survey × (c < n) ⌝ }
-    ensures { λ r. ⌜ ((present : ℕ) → ReadySurvey (numbers n m leader present) (now (cluster .entry)) survey
-        → ((c ≡ leader - 1 → ⊥) → RestBelow (named (numbers n m leader present)) (decode n m (now (cluster .entry))) c)
-        → storeOf r ≡ nextIn (named (numbers n m leader present)) (now (cluster .entry))) ⌝ }
+fn next_store(cluster: &[u8], survey: Survey, shape: Shape, c: usize) -> NextStore
+    requires { ⌜ SomeReadySurvey shape (now cluster) survey × (c < shape .n) ⌝ }
+    ensures { λ r. ⌜ ((leading present : ℕ) → ReadySurvey (numbersOf shape leading present) (now (cluster .entry)) (shape .leader) survey
+        → ((c ≡ shape .leader → ⊥) → RestBelow (named (numbersOf shape leading present)) (decode (shape .n) (shape .m) (now (cluster .entry))) c)
+        → storeOf r ≡ nextIn (named (numbersOf shape leading present)) (now (cluster .entry))) ⌝ }
 {
-    if c != leader - 1 {
-        return followers_store(
-            cluster,
-            survey.readable,
-            &survey.lengths,
-            &survey.conditions,
-            &survey.epochs,
-            n,
-            m,
-            leader - 1,
-            c,
-        );
+    if c != shape.leader {
+        return followers_store(cluster, survey, shape, c);
     }
-    let plan = plan_survey(survey, n, leader - 1);
-    first_store(cluster, survey, plan, n, m, leader - 1)
+    let plan = plan_survey(survey, shape.n, shape.leader);
+    first_store(cluster, survey, plan, shape)
 }
 
 // Spent if a store is outstanding, else recovered.
@@ -76,30 +60,32 @@ fn run_answer(store: NextStore, made: u64) -> RunAnswer
     RunAnswer::Recovered(made)
 }
 
-// Makes at most `budget` stores on a cluster, and counts them. The images are read once; what each store changes is noted. The leader's
-// number is from 1.
+// Makes at most `budget` stores on a cluster, and counts them. The images are read once; what each store changes is noted. The leader by
+// its number.
 pub fn run_cluster(
     cluster: &mut [u8],
     n: usize,
     m: usize,
-    leader: usize,
+    leading: usize,
     present: u32,
     budget: u64,
 ) -> RunAnswer
-    ensures { λ r. ⌜ (runAnswerResult r ≡ callResult (numbers n m leader present) (run budget) (now (cluster .entry)))
-        × (now (cluster .exit) ≡ callBytes (numbers n m leader present) (run budget) (now (cluster .entry))) ⌝ }
+    ensures answer { λ r. ⌜ runAnswerResult r ≡ callResult (numbers n m leading present) (run budget) (now (cluster .entry)) ⌝ }
+    ensures bytes { λ _. ⌜ now (cluster .exit) ≡ callBytes (numbers n m leading present) (run budget) (now (cluster .entry)) ⌝ }
 {
-    let view = view_cluster(cluster, n, m, leader, present);
-    let refusal = view.refusal;
+    let opening = open_cluster(cluster, n, m, leading, present);
+    let refusal = opening.refusal;
     if refusal != 0 {
         return RunAnswer::Refused(refusal);
     }
-    let mut survey = view.survey;
-    let plan = plan_survey(survey, n, leader - 1);
+    let plan = opening.plan;
     if plan.waiting < plan.end {
         return RunAnswer::Waiting(plan.waiting + 1);
     }
-    let mut store = first_store(cluster, survey, plan, n, m, leader - 1);
+    let leader = opening.leader;
+    let shape = Shape { n, m, leader };
+    let mut survey = opening.survey;
+    let mut store = first_store(cluster, survey, plan, shape);
     let mut made: u64 = 0;
     while made < budget {
         if !is_outstanding(store) {
@@ -108,7 +94,7 @@ pub fn run_cluster(
         make_store(cluster, m, store);
         made += 1;
         survey = note_store(survey, store);
-        store = next_store(cluster, survey, n, m, leader, replica_of(store));
+        store = next_store(cluster, survey, shape, replica_of(store));
     }
     run_answer(store, made)
 }

@@ -1,6 +1,5 @@
 -- `is_outstanding` tells nothing from a store.
 use Rattle.recovery.proofs.MadeLaws.{is-some, is-none}
-use native.Mathlib.Omega.{arith}
 use borrow.Author.Needs.{needs}
 use Rattle.pick.proofs.is_outstanding.Statement.{statement}
 use Rattle.pick.proofs.is_outstanding.Tie as tie

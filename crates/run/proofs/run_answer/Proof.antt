@@ -1,8 +1,7 @@
 -- `run_answer` tells spent from recovered.
-use mathlib.Core.Path.{_≡_, sym, _∙_}
+use mathlib.Core.Path.{sym, _∙_}
 use Rattle.recovery.specs.NextStore.{storeOf}
 use Rattle.recovery.proofs.Underway.{answer-spent, answer-recovered}
-use native.Mathlib.Omega.{arith}
 use borrow.Author.Needs.{needs}
 use Rattle.run.proofs.run_answer.Statement.{statement}
 use Rattle.run.proofs.run_answer.Tie as tie

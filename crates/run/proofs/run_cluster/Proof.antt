@@ -5,21 +5,21 @@ use borrow.Author.Tests.{not-true, not-false}
 use Rattle.protocol.specs.Call.{named}
 use Rattle.recovery.specs.Answers.{numbers}
 use Rattle.recovery.proofs.OutcomeLaws.{refused-run, refused-run-bytes, waiting-run, waiting-run-bytes}
-use Rattle.recovery.proofs.OutlookLaws.{from-one, named-m, in-range, end-fits, waits, readies}
+use Rattle.recovery.proofs.OutlookLaws.{sees, in-range, end-fits, waits, readies}
 use Rattle.recovery.proofs.Noting.{Noting, noting-start, noting-fits, noting-within, noted-ready, noted-replica, noted-rests, noting-more, noting-size, noting-recovered, noting-ends}
 use borrow.Author.Needs.{needs}
-use native.Mathlib.Omega.{arith}
 use Rattle.run.proofs.run_cluster.Statement.{statement}
 use Rattle.run.proofs.run_cluster.Tie as tie
 
 abbrev Inv-loop : tie.InvT-loop
-Inv-loop cluster₀ n m leader present budget refusal survey₀ store₀ made₀ cluster survey store made = Noting (numbers n m leader present) cluster₀ store₀ budget made cluster survey store
+Inv-loop cluster₀ n m leading present budget refusal leader shape survey₀ store₀ made₀ cluster survey store made =
+    Noting (numbers n m leading present) cluster₀ store₀ leader budget made cluster survey store
 
 abbrev μ-loop : tie.MeasureT-loop
-μ-loop cluster₀ n m leader present budget refusal survey₀ store₀ made₀ cluster survey store made = budget - made
+μ-loop cluster₀ n m leading present budget refusal leader shape survey₀ store₀ made₀ cluster survey store made = budget - made
 
-view-cluster-requires : tie.Need-view-cluster-requires Inv-loop μ-loop
-view-cluster-requires c κs = search needs
+open-cluster-requires : tie.Need-open-cluster-requires Inv-loop μ-loop
+open-cluster-requires c κs = search needs
 
 same-length : tie.Need-same-length Inv-loop μ-loop
 same-length c = search needs
@@ -27,86 +27,52 @@ same-length c = search needs
 returns : tie.Need-returns Inv-loop μ-loop
 returns c =
     let a = c .before .before .before .before .args in
-    let N = numbers (a .n) (a .m) (a .leader) (a .present) in
+    let N = numbers (a .n) (a .m) (a .leading) (a .present) in
     let b = a .cluster .now in
-    let v = c .before .view-cluster .ensures in
-    (refused-run N b refl (sym (v .0), c .if1 .taken) (a .budget), refused-run-bytes N b refl (sym (v .0), c .if1 .taken) (a .budget))
+    let o = c .before .open-cluster .ensures in
+    (refused-run N b refl (sym (o .0), c .if1 .taken) (a .budget), refused-run-bytes N b refl (sym (o .0), c .if1 .taken) (a .budget))
 
-sub-plan-survey : tie.Need-sub-plan-survey Inv-loop μ-loop
-sub-plan-survey c =
-    let a = c .before .before .before .before .before .args in
-    let N = numbers (a .n) (a .m) (a .leader) (a .present) in
-    let b = a .cluster .now in
-    let v = c .before .before .view-cluster .ensures in
-    let t = c .before .if1 .left in
-    let e = sym (v .0) ∙ t in
-    let s = v .1 t in
-    from-one N b e
-
-plan-survey-requires : tie.Need-plan-survey-requires Inv-loop μ-loop
-plan-survey-requires c κs =
-    let a = c .before .before .before .before .before .args in
-    let N = numbers (a .n) (a .m) (a .leader) (a .present) in
-    let b = a .cluster .now in
-    let v = c .before .before .view-cluster .ensures in
-    let t = c .before .if1 .left in
-    let e = sym (v .0) ∙ t in
-    let s = v .1 t in
-    let r = in-range N b e s in
-    (omega arith, omega arith, omega arith)
-
-add-t17 : tie.Need-add-t17 Inv-loop μ-loop
-add-t17 c = search needs
+add-t18 : tie.Need-add-t18 Inv-loop μ-loop
+add-t18 c = search needs
 
 same-length-2 : tie.Need-same-length-2 Inv-loop μ-loop
 same-length-2 c = search needs
 
 returns-2 : tie.Need-returns-2 Inv-loop μ-loop
 returns-2 c =
-    let a = c .before .before .before .before .before .before .before .before .before .args in
-    let N = numbers (a .n) (a .m) (a .leader) (a .present) in
+    let a = c .before .before .before .before .before .before .before .before .args in
+    let N = numbers (a .n) (a .m) (a .leading) (a .present) in
     let b = a .cluster .now in
-    let v = c .before .before .before .before .before .before .view-cluster .ensures in
-    let t = c .before .before .before .before .before .if1 .left in
-    let e = sym (v .0) ∙ t in
-    let s = v .1 t in
-    let w = waits N b e s (c .before .before .before .plan-survey .ensures (named N) _ s) (c .before .if2 .taken) in
-    (waiting-run N b refl w (a .budget), waiting-run-bytes N b refl w (a .budget))
-
-sub-first-store : tie.Need-sub-first-store Inv-loop μ-loop
-sub-first-store c =
-    let a = c .before .before .before .before .before .before .before .before .before .args in
-    let N = numbers (a .n) (a .m) (a .leader) (a .present) in
-    let b = a .cluster .now in
-    let v = c .before .before .before .before .before .before .view-cluster .ensures in
-    let t = c .before .before .before .before .before .if1 .left in
-    let e = sym (v .0) ∙ t in
-    let s = v .1 t in
-    from-one N b e
+    let o = c .before .before .before .before .before .open-cluster .ensures in
+    let t = c .before .before .before .before .if1 .left in
+    let e = sym (o .0) ∙ t in
+    let w = o .1 t in
+    let i = waits N b e (w .survey-is) (w .plan-is) (c .before .if2 .taken) in
+    (waiting-run N b refl i (a .budget), waiting-run-bytes N b refl i (a .budget))
 
 first-store-requires : tie.Need-first-store-requires Inv-loop μ-loop
 first-store-requires c κs =
     let a = c .before .before .before .before .before .before .before .before .before .args in
-    let N = numbers (a .n) (a .m) (a .leader) (a .present) in
+    let N = numbers (a .n) (a .m) (a .leading) (a .present) in
     let b = a .cluster .now in
-    let v = c .before .before .before .before .before .before .view-cluster .ensures in
+    let o = c .before .before .before .before .before .before .open-cluster .ensures in
     let t = c .before .before .before .before .before .if1 .left in
-    let e = sym (v .0) ∙ t in
-    let s = v .1 t in
-    (in-range N b e s, end-fits N b e s (c .before .before .before .plan-survey .ensures (named N) _ s))
+    let e = sym (o .0) ∙ t in
+    let w = o .1 t in
+    (in-range N b e (w .survey-is), end-fits N b e (w .survey-is) (w .plan-is))
 
 loop-holds : tie.Need-loop-holds Inv-loop μ-loop
 loop-holds c =
     let a = c .before .before .before .before .before .before .before .before .before .before .args in
-    let N = numbers (a .n) (a .m) (a .leader) (a .present) in
+    let N = numbers (a .n) (a .m) (a .leading) (a .present) in
     let b = a .cluster .now in
-    let v = c .before .before .before .before .before .before .before .view-cluster .ensures in
+    let o = c .before .before .before .before .before .before .before .open-cluster .ensures in
     let t = c .before .before .before .before .before .before .if1 .left in
-    let e = sym (v .0) ∙ t in
-    let s = v .1 t in
-    let p = c .before .before .before .before .plan-survey .ensures (named N) _ s in
-    let i = readies N b e s p (c .before .before .if2 .left) (c .first-store .result) (c .first-store .ensures (named N) (named-m N) s p) in
-    noting-start N b (a .budget) _ _ i (record { accepts = e; sees = s; ready = i .1 })
+    let e = sym (o .0) ∙ t in
+    let w = o .1 t in
+    let s = w .survey-is in
+    let i = readies N b e s (w .plan-is) (c .before .before .before .if2 .left) (c .first-store .result) (c .first-store .ensures (named N) (sees N b e s) (w .plan-is)) in
+    noting-start N b _ (a .budget) _ _ i (record { accepts = e; sees = s; ready = i .1 })
 
 is-outstanding-requires : tie.Need-is-outstanding-requires Inv-loop μ-loop
 is-outstanding-requires c κs = search needs
@@ -114,19 +80,19 @@ is-outstanding-requires c κs = search needs
 same-length-3 : tie.Need-same-length-3 Inv-loop μ-loop
 same-length-3 c =
     let a = c .before .before .before .before .before .before .before .before .before .before .before .before .before .before .args in
-    let N = numbers (a .n) (a .m) (a .leader) (a .present) in
+    let N = numbers (a .n) (a .m) (a .leading) (a .present) in
     noting-size N (c .before .before .before .loop .inv)
 
 returns-3 : tie.Need-returns-3 Inv-loop μ-loop
 returns-3 c =
     let a = c .before .before .before .before .before .before .before .before .before .before .before .before .before .before .args in
-    let N = numbers (a .n) (a .m) (a .leader) (a .present) in
+    let N = numbers (a .n) (a .m) (a .leading) (a .present) in
     noting-recovered N (c .before .before .before .loop .inv) (sym (c .before .is-outstanding .ensures) ∙ not-true _ (c .if3 .taken))
 
 make-store-requires : tie.Need-make-store-requires Inv-loop μ-loop
 make-store-requires c κs =
     let a = c .before .before .before .before .before .before .before .before .before .before .before .before .before .before .before .args in
-    let N = numbers (a .n) (a .m) (a .leader) (a .present) in
+    let N = numbers (a .n) (a .m) (a .leading) (a .present) in
     noting-fits N (c .before .before .before .before .loop .inv)
 
 add-made : tie.Need-add-made Inv-loop μ-loop
@@ -135,7 +101,7 @@ add-made c = search needs
 note-store-requires : tie.Need-note-store-requires Inv-loop μ-loop
 note-store-requires c κs =
     let a = c .before .before .before .before .before .before .before .before .before .before .before .before .before .before .before .before .before .before .args in
-    let N = numbers (a .n) (a .m) (a .leader) (a .present) in
+    let N = numbers (a .n) (a .m) (a .leading) (a .present) in
     noting-within N (c .before .before .before .before .before .before .before .loop .inv)
 
 replica-of-requires : tie.Need-replica-of-requires Inv-loop μ-loop
@@ -144,13 +110,13 @@ replica-of-requires c κs = search needs
 next-store-requires : tie.Need-next-store-requires Inv-loop μ-loop
 next-store-requires c κs =
     let a = c .before .before .before .before .before .before .before .before .before .before .before .before .before .before .before .before .before .before .before .before .before .args in
-    let N = numbers (a .n) (a .m) (a .leader) (a .present) in
+    let N = numbers (a .n) (a .m) (a .leading) (a .present) in
     let g = c .before .before .before .before .before .before .before .before .before .before .loop .inv in
     let t = sym (c .before .before .before .before .before .before .before .before .is-outstanding .ensures) ∙ not-false _ (c .before .before .before .before .before .before .before .if3 .left) in
     let x = c .before .before .before .before .before .make-store .ensures in
     let f = c .before .before .note-store .ensures in
     let q = c .replica-of .ensures in
-    (record { present = a .present; is = noted-ready N g t x f }, noted-replica N g t x f q)
+    (record { leading = a .leading; present = a .present; is = noted-ready N g t x f }, noted-replica N g t x f q)
 
 loop-less : tie.Need-loop-less Inv-loop μ-loop
 loop-less c = search needs
@@ -158,13 +124,13 @@ loop-less c = search needs
 loop-again : tie.Need-loop-again Inv-loop μ-loop
 loop-again c =
     let a = c .before .before .before .before .before .before .before .before .before .before .before .before .before .before .before .before .before .before .before .before .before .before .args in
-    let N = numbers (a .n) (a .m) (a .leader) (a .present) in
+    let N = numbers (a .n) (a .m) (a .leading) (a .present) in
     let g = c .before .before .before .before .before .before .before .before .before .before .before .loop .inv in
     let t = sym (c .before .before .before .before .before .before .before .before .before .is-outstanding .ensures) ∙ not-false _ (c .before .before .before .before .before .before .before .before .if3 .left) in
     let x = c .before .before .before .before .before .before .make-store .ensures in
     let f = c .before .before .before .note-store .ensures in
     let q = c .before .replica-of .ensures in
-    noting-more N g t x f (c .before .before .before .before .before .before .before .before .before .before .loop-test .taken) (λ v. c .next-store .ensures (a .present) v (noted-rests N g t x f q))
+    noting-more N g t x f (c .before .before .before .before .before .before .before .before .before .before .loop-test .taken) (λ v. c .next-store .ensures (a .leading) (a .present) v (noted-rests N g t x f q))
 
 run-answer-requires : tie.Need-run-answer-requires Inv-loop μ-loop
 run-answer-requires c κs = search needs
@@ -172,42 +138,14 @@ run-answer-requires c κs = search needs
 same-length-4 : tie.Need-same-length-4 Inv-loop μ-loop
 same-length-4 c =
     let a = c .before .before .before .before .before .before .before .before .before .before .before .before .before .args in
-    let N = numbers (a .n) (a .m) (a .leader) (a .present) in
+    let N = numbers (a .n) (a .m) (a .leading) (a .present) in
     noting-size N (c .before .before .loop .inv)
 
 returns-4 : tie.Need-returns-4 Inv-loop μ-loop
 returns-4 c =
     let a = c .before .before .before .before .before .before .before .before .before .before .before .before .before .args in
-    let N = numbers (a .n) (a .m) (a .leader) (a .present) in
+    let N = numbers (a .n) (a .m) (a .leading) (a .present) in
     noting-ends N (c .before .before .loop .inv) (c .before .loop-test .left) (c .run-answer .ensures)
 
 pub run-cluster-spec : {M : Type 1} → statement M
-run-cluster-spec =
-    tie.close
-    (tie.spec
-    Inv-loop
-    μ-loop
-    view-cluster-requires
-    same-length
-    returns
-    sub-plan-survey
-    plan-survey-requires
-    add-t17
-    same-length-2
-    returns-2
-    sub-first-store
-    first-store-requires
-    loop-holds
-    is-outstanding-requires
-    same-length-3
-    returns-3
-    make-store-requires
-    add-made
-    note-store-requires
-    replica-of-requires
-    next-store-requires
-    loop-less
-    loop-again
-    run-answer-requires
-    same-length-4
-    returns-4)
+run-cluster-spec = tie.close (tie.spec Inv-loop μ-loop open-cluster-requires same-length returns add-t18 same-length-2 returns-2 first-store-requires loop-holds is-outstanding-requires same-length-3 returns-3 make-store-requires add-made note-store-requires replica-of-requires next-store-requires loop-less loop-again run-answer-requires same-length-4 returns-4)

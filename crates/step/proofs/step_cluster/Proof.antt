@@ -1,7 +1,6 @@
 use Prim.Native.Nat.{_≤_}
 use lib.ListN.{length}
 -- `step_cluster` makes the store that is outstanding, if the cluster is not refused and does not wait.
-use mathlib.Core.Path.{_≡_}
 use Rattle.recovery.specs.Answers.{numbers}
 use Rattle.recovery.proofs.OutcomeLaws.{slots-few, store-fits, fits-more, refused-step, refused-step-bytes, waiting-step, waiting-step-bytes, ready-accepts, ready-next, ready-stepped, ready-step-bytes}
 use native.Mathlib.Omega.{arith}
@@ -24,7 +23,7 @@ enum-known-store c = search needs
 make-store-requires : tie.Need-make-store-requires
 make-store-requires c κs =
     let a = c .before .before .before .before .before .before .before .args in
-    let N = numbers (a .n) (a .m) (a .leader) (a .present) in
+    let N = numbers (a .n) (a .m) (a .leading) (a .present) in
     let b = a .cluster .now in
     let q = c .before .before .store .given .1 in
     let i = c .before .before .before .before .view-recovery .ensures in
@@ -34,7 +33,7 @@ make-store-requires c κs =
 step-answer-requires : tie.Need-step-answer-requires
 step-answer-requires c κs =
     let a = c .before .before .before .before .before .before .before .before .before .before .args in
-    let N = numbers (a .n) (a .m) (a .leader) (a .present) in
+    let N = numbers (a .n) (a .m) (a .leading) (a .present) in
     let b = a .cluster .now in
     let s = c .before .before .before .before .before .store .given .0 .0 in
     let q = c .before .before .before .before .before .store .given .1 in
@@ -49,7 +48,7 @@ same-length c = search needs
 returns : tie.Need-returns
 returns c =
     let a = c .before .before .before .before .before .before .args in
-    let N = numbers (a .n) (a .m) (a .leader) (a .present) in
+    let N = numbers (a .n) (a .m) (a .leading) (a .present) in
     let b = a .cluster .now in
     let q = c .before .refusal .given .1 in
     let i = c .before .before .before .view-recovery .ensures in
@@ -61,7 +60,7 @@ same-length-2 c = search needs
 returns-2 : tie.Need-returns-2
 returns-2 c =
     let a = c .before .before .before .before .before .before .args in
-    let N = numbers (a .n) (a .m) (a .leader) (a .present) in
+    let N = numbers (a .n) (a .m) (a .leading) (a .present) in
     let b = a .cluster .now in
     let q = c .before .slot .given .1 in
     let i = c .before .before .before .view-recovery .ensures in
@@ -73,7 +72,7 @@ same-length-3 c = search needs
 returns-3 : tie.Need-returns-3
 returns-3 c =
     let a = c .before .before .before .before .before .before .before .before .before .before .before .args in
-    let N = numbers (a .n) (a .m) (a .leader) (a .present) in
+    let N = numbers (a .n) (a .m) (a .leading) (a .present) in
     let b = a .cluster .now in
     let q = c .before .before .before .before .before .before .store .given .1 in
     let i = c .before .before .before .before .before .before .before .before .view-recovery .ensures in

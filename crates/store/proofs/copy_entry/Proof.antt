@@ -1,5 +1,4 @@
 -- `copy_entry` splices what it loaded.
-use mathlib.Core.Path.{_≡_}
 use Rattle.slices.proofs.SpliceLaws.{spliced-copy}
 use Rattle.recovery.proofs.OffsetLaws.{entry-room}
 use native.Mathlib.Omega.{arith}
@@ -7,39 +6,39 @@ use borrow.Author.Needs.{needs}
 use Rattle.store.proofs.copy_entry.Statement.{statement}
 use Rattle.store.proofs.copy_entry.Tie as tie
 
-entry-at-requires : tie.Need-entry-at-requires
-entry-at-requires c κs = search needs
+entry-in-requires : tie.Need-entry-in-requires
+entry-in-requires c κs = search needs
 
 add-from-end : tie.Need-add-from-end
 add-from-end c =
     let a = c .before .before .args in
-    let r = entry-room (a .m) (a .d) (a .k) _ (c .before .before .pre .0) (c .before .before .pre .2) in
-    omega (arith, c .entry-at .ensures)
+    let r = entry-room (a .m) (a .donor) (a .k) _ (c .before .before .pre .1) (c .before .before .pre .3) in
+    omega (arith, c .entry-in .ensures)
 
-sub-load-part : tie.Need-sub-load-part
-sub-load-part c = search needs
+sub-load-entry : tie.Need-sub-load-entry
+sub-load-entry c = search needs
 
-part-load-part-start : tie.Need-part-load-part-start
-part-load-part-start c = search needs
+part-load-entry-start : tie.Need-part-load-entry-start
+part-load-entry-start c = search needs
 
-part-load-part-end : tie.Need-part-load-part-end
-part-load-part-end c =
+part-load-entry-end : tie.Need-part-load-entry-end
+part-load-entry-end c =
     let a = c .before .before .before .args in
-    let r = entry-room (a .m) (a .d) (a .k) _ (c .before .before .before .pre .0) (c .before .before .before .pre .2) in
-    let e = c .before .entry-at .ensures in
+    let r = entry-room (a .m) (a .donor) (a .k) _ (c .before .before .before .pre .1) (c .before .before .before .pre .3) in
+    let e = c .before .entry-in .ensures in
     search needs
 
-load-part-requires : tie.Need-load-part-requires
-load-part-requires c κs = search needs
+load-entry-requires : tie.Need-load-entry-requires
+load-entry-requires c κs = search needs
 
-entry-at-requires-2 : tie.Need-entry-at-requires-2
-entry-at-requires-2 c κs = search needs
+entry-in-requires-2 : tie.Need-entry-in-requires-2
+entry-in-requires-2 c κs = search needs
 
 add-to-end : tie.Need-add-to-end
 add-to-end c =
     let p = c .before .before .before .before .before .before in
-    let r = entry-room (p .args .m) (p .args .c) (p .args .k) _ (p .pre .0) (p .pre .1) in
-    omega (arith, c .entry-at2 .ensures)
+    let r = entry-room (p .args .m) (p .args .c) (p .args .k) _ (p .pre .1) (p .pre .2) in
+    omega (arith, c .entry-in2 .ensures)
 
 sub-copy-bytes : tie.Need-sub-copy-bytes
 sub-copy-bytes c = search needs
@@ -50,8 +49,8 @@ part-copy-bytes-start c = search needs
 part-copy-bytes-end : tie.Need-part-copy-bytes-end
 part-copy-bytes-end c =
     let p = c .before .before .before .before .before .before in
-    let r = entry-room (p .args .m) (p .args .c) (p .args .k) _ (p .pre .0) (p .pre .1) in
-    let e = c .entry-at2 .ensures in
+    let r = entry-room (p .args .m) (p .args .c) (p .args .k) _ (p .pre .1) (p .pre .2) in
+    let e = c .entry-in2 .ensures in
     search needs
 
 slice-aggregate-copy-bytes : tie.Need-slice-aggregate-copy-bytes
@@ -66,22 +65,22 @@ same-length c = search needs
 returns : tie.Need-returns
 returns c =
     let p = c .before .before .before .before .before .before .before .before .before .before .before in
-    let r = entry-room (p .args .m) (p .args .d) (p .args .k) _ (p .pre .0) (p .pre .2) in
-    let from = c .before .before .before .before .before .before .before .before .before .entry-at .ensures in
-    let to = c .before .before .before .before .before .entry-at2 .ensures in
-    rw (← to, ← from) (spliced-copy (p .args .cluster .now) _ _ 240 (omega arith) (c .before .before .before .before .before .before .load-part .ensures) (c .before .before .copy-bytes .ensures))
+    let r = entry-room (p .args .m) (p .args .donor) (p .args .k) _ (p .pre .1) (p .pre .3) in
+    let from = c .before .before .before .before .before .before .before .before .before .entry-in .ensures in
+    let to = c .before .before .before .before .before .entry-in2 .ensures in
+    rw (← to, ← from) (spliced-copy (p .args .cluster .now) _ _ 240 (omega arith) (c .before .before .before .before .before .before .load-entry .ensures) (c .before .before .copy-bytes .ensures))
 
 pub copy-entry-spec : {M : Type 1} → statement M
 copy-entry-spec =
     tie.close
     (tie.spec
-    entry-at-requires
+    entry-in-requires
     add-from-end
-    sub-load-part
-    part-load-part-start
-    part-load-part-end
-    load-part-requires
-    entry-at-requires-2
+    sub-load-entry
+    part-load-entry-start
+    part-load-entry-end
+    load-entry-requires
+    entry-in-requires-2
     add-to-end
     sub-copy-bytes
     part-copy-bytes-start

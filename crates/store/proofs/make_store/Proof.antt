@@ -12,7 +12,9 @@ enum-known-store : tie.Need-enum-known-store
 enum-known-store c = search needs
 
 copy-entry-requires : tie.Need-copy-entry-requires
-copy-entry-requires c κs = rw (c .before .before .store .given .1) at (c .before .before .before .before .before .pre .1)
+copy-entry-requires c κs =
+    let f = rw (c .before .before .store .given .1) at (c .before .before .before .before .before .pre .1) in
+    (omega arith, f .0, f .1, f .2)
 
 enum-known-store-2 : tie.Need-enum-known-store-2
 enum-known-store-2 c = search needs
@@ -26,7 +28,9 @@ enum-known-store-3 : tie.Need-enum-known-store-3
 enum-known-store-3 c = search needs
 
 blank-record-requires : tie.Need-blank-record-requires
-blank-record-requires c κs = rw (c .before .before .store3 .given .1) at (c .before .before .before .before .before .pre .1)
+blank-record-requires c κs =
+    let f = rw (c .before .before .store3 .given .1) at (c .before .before .before .before .before .pre .1) in
+    (omega arith, f .0, f .1)
 
 returns : tie.Need-returns
 returns c = nothing-made _ _ (c .enum-told .given .1)
