@@ -27,7 +27,7 @@ use recovery::NextStore;
 use recovery::Shape;
 use survey::sets::contains;
 
-// A plan byte above this one says fetch: by so much it is above the number of the replica to fetch from.
+// A plan byte that says fetch is this and the number of the replica to fetch from.
 const FETCH: u8 = 10;
 
 // The lowest slot of replica c below the bound whose condition has this number; the bound if there is none.

@@ -5,7 +5,7 @@ use mathlib.Core.Bool.{true, false, cond, not}
 use mathlib.Core.Option.{Option, none, some}
 use native.Mathlib.Omega.{arith}
 use lib.Dec.{eqb, ltb}
-use lib.ListN.{length, getD}
+use lib.ListN.{getD}
 use borrow.Author.Tests.{lt-ltb, le-ltb, eq-eqb, ne-eqb}
 use Rattle.search.specs.Search.{lowest}
 use Rattle.search.proofs.SearchLaws.{lowest-is}
@@ -24,7 +24,6 @@ use Rattle.protocol.specs.Recovery.{_or_, followerStore, isSome, firstOf, unlik
 use Rattle.image.specs.Cluster.{ImageFits}
 use Rattle.recovery.specs.Look.{Looked, InRange}
 use Rattle.recovery.specs.declared.Shape.{Shape}
-use Rattle.protocol.proofs.Slots.{leader-fits}
 
 -- ---- one replica
 
@@ -42,10 +41,6 @@ module _ {S : Setting} {W : ℕ → View} {n leader : ℕ} {s : Survey} (v : Sur
   looked-leader em = looked em leader (v .leader-below) (v .leader-reads)
 
 module _ (S : Setting) (b : Bytes) where
-  pub log-within : (c : ℕ) → viewsIn S b c .length ≤ S .m
-  unfolding viewsIn
-  log-within c = leader-fits S (decode (S .n) (S .m) b) c
-
   module _ (c : ℕ) where
     pub due-leader : (leader : ℕ) → S .leader ≡ leader → c ≡ leader → none ≡ due S (decode (S .n) (S .m) b) c
     unfolding due answers

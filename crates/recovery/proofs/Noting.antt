@@ -14,7 +14,7 @@ use Rattle.protocol.specs.StepBytes.{afterStoreBytes, nextIn}
 use Rattle.protocol.specs.Call.{run, Numbers, named}
 use Rattle.protocol.specs.CallResult.{Result, recovered, runResult, callResult, callBytes}
 use Rattle.recovery.specs.NextStore.{storeOf, StoreFits}
-use Rattle.recovery.specs.Answers.{OutlookIs}
+use Rattle.recovery.specs.OutlookIs.{OutlookIs}
 use Rattle.recovery.specs.Look.{RestBelow}
 use Rattle.recovery.specs.Note.{Noted, ReadySurvey}
 use Rattle.recovery.specs.declared.NextStore.{NextStore}

@@ -20,7 +20,7 @@ use Rattle.protocol.specs.Call.{step, run, Numbers, named, refusalIn}
 use Rattle.protocol.specs.CallResult.{Result, refused, waiting, stored, recovered, stepResult, runResult, callResult, callBytes}
 use Rattle.image.specs.Cluster.{ImageFits}
 use Rattle.recovery.specs.NextStore.{storeOf, StoreFits}
-use Rattle.recovery.specs.Answers.{OutlookIs}
+use Rattle.recovery.specs.OutlookIs.{OutlookIs}
 use Rattle.recovery.specs.declared.NextStore.{NextStore}
 use Rattle.recovery.specs.declared.NextStore.the-variants.{Nothing, Entry, Record, Blank}
 use Rattle.recovery.specs.declared.Outlook.{Outlook}

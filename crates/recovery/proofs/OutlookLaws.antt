@@ -19,11 +19,10 @@ use Rattle.protocol.specs.Call.{Numbers, named, refusalIn}
 use Rattle.recovery.specs.NextStore.{storeOf}
 use Rattle.recovery.specs.Look.{InRange, Sees}
 use Rattle.recovery.specs.declared.Shape.{Shape}
-use Rattle.recovery.specs.Answers.{OutlookIs}
+use Rattle.recovery.specs.OutlookIs.{OutlookIs}
 use Rattle.recovery.specs.declared.NextStore.{NextStore}
 use Rattle.recovery.specs.declared.Outlook.the-variants as outlook
 use Rattle.planner.proofs.RuleLaws.{end-le}
-use Rattle.recovery.proofs.FollowerLaws.{log-within}
 use Rattle.protocol.proofs.CallLaws.{accepted}
 
 -- a call's shape, its leader counted from 0
@@ -37,7 +36,7 @@ module _ (N : Numbers) (b : Bytes) (e : refusalIn N b ≡ 0) {leader : ℕ} {s :
 
   log-is : (c : ℕ) → c < N .n → viewsIn (named N) b c .readable ≡ true → getD (s .lengths) c 0 ≤ N .m
   unfolding settingOf
-  log-is c h r = omega (arith, v .surveyed .length-is c h r, log-within (named N) b c)
+  log-is c h r = omega (arith, v .surveyed .length-is c h r, v .logs-fit c)
 
   pub in-range : InRange (shapeOf N leader) s (length b)
   unfolding settingOf
@@ -56,7 +55,7 @@ module _ (N : Numbers) (b : Bytes) (e : refusalIn N b ≡ 0) {leader : ℕ} {s :
     end-fits =
         let a = p .end-is in
         let d = end-le (named N) (viewsIn (named N) b) in
-        let l = log-within (named N) b (named N .leader) in
+        let l = v .logs-fit (named N .leader) in
         let k = v .slots-fit in
         omega arith
 

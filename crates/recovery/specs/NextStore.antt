@@ -1,4 +1,4 @@
--- The store that the code's enum names.
+-- For proofs only. The store that the code's enum names, and that it lies in the buffer.
 use Prim.Native.Nat.{ℕ, _<_}
 use mathlib.Core.Option.{Option, none, some}
 use Rattle.image.specs.Cluster.{ImageFits}

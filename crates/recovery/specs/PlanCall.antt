@@ -12,8 +12,10 @@ use Rattle.recovery.specs.Answers.{numbers, planAnswerResult}
 
 pub record PlanCall : Type 0 where
   -- the answer, lent buffers of any sizes
-  pub result-is : (n m leader present : ℕ) (b : Bytes) (bytes rows : ℕ) →
-      planAnswerResult (planAnswer (planRefusal n m leader present b bytes rows) (answer (settingOf n m leader present) (viewsIn (settingOf n m leader present) b)))
-      ≡ callResult (numbers n m leader present) (plan bytes rows) b
+  pub result-is : (n m leading present : ℕ) (b : Bytes) (bytes rows : ℕ) →
+      planAnswerResult
+      (planAnswer (planRefusal n m leading present b bytes rows)
+      (answer (settingOf n m leading present) (viewsIn (settingOf n m leading present) b)))
+      ≡ callResult (numbers n m leading present) (plan bytes rows) b
   -- the planner changes no byte of the cluster
-  pub bytes-kept : (n m leader present : ℕ) (b : Bytes) (bytes rows : ℕ) → callBytes (numbers n m leader present) (plan bytes rows) b ≡ b
+  pub bytes-kept : (n m leading present : ℕ) (b : Bytes) (bytes rows : ℕ) → callBytes (numbers n m leading present) (plan bytes rows) b ≡ b
