@@ -9,7 +9,7 @@ ghost use Rattle.planner.specs.Survey.{Opened, SurveyIs, PlanIs};
 use crate::rules::first_waiting;
 use crate::rules::mark_truncated;
 use crate::rules::walk_slots;
-use locate::MAX_SLOTS;
+use image::MAX_SLOTS;
 use planner::Plan;
 use planner::Survey;
 use survey::cluster::view_cluster;

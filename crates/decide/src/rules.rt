@@ -1,5 +1,5 @@
 // What the replicas answer about a faulty slot of the leader, and what is to be done about each slot. A survey's numbers
-// are lent: slot k of replica c stands at c * 64 + k. Replicas and slots count from 0 here.
+// are lent: slot k of replica c stands at c * MAX_SLOTS + k. Replicas and slots count from 0 here.
 ghost use Prim.Native.Nat.{ℕ, _+_, _<_, _≤_};
 ghost use mathlib.Core.Path.{_≡_};
 ghost use mathlib.Core.Bool.{cond, not, _&&_};
@@ -11,8 +11,8 @@ ghost use Rattle.planner.specs.Rules.{have, dontHave, mayTruncate, end};
 ghost use Rattle.planner.specs.Plan.{keptByte};
 ghost use Rattle.planner.specs.Sets.{setOf};
 ghost use Rattle.planner.specs.Survey.{conditionFrom, agreesAt, surveySetting, surveyViews, Walked, markedByte};
+use image::MAX_SLOTS;
 use image::condition;
-use locate::MAX_SLOTS;
 use planner::SURVEY_SLOTS;
 use planner::action;
 use survey::sets::contains;

@@ -7,6 +7,11 @@ ghost use Rattle.image.specs.LastEntry.{LastEntry};
 
 pub mod condition; // condition.rt: the conditions of a slot by number
 
+// An image has at most so many slots, and a cluster so many replicas.
+pub const MAX_SLOTS: usize = 64;
+
+pub const MAX_REPLICAS: usize = 7;
+
 // A fresh image was made, or the refusal.
 pub enum FormatAnswer {
     Formatted,

@@ -46,11 +46,6 @@ pub const PAYLOAD_AT: usize = 26;
 // A payload has at most so many bytes.
 pub const MAX_PAYLOAD: usize = 200;
 
-// An image has at most so many slots, and a cluster so many replicas.
-pub const MAX_SLOTS: usize = 64;
-
-pub const MAX_REPLICAS: usize = 7;
-
 // How many bytes an image of m slots has.
 pub fn image_size(m: usize) -> usize
     requires { ⌜ m ≤ 64 ⌝ }

@@ -1,4 +1,4 @@
-// What a survey says once a store has been made, so that a run reads no image again. Slot k of replica c stands at c * 64 + k.
+// What a survey says once a store has been made, so that a run reads no image again. Slot k of replica c stands at c * MAX_SLOTS + k.
 ghost use Prim.Native.Nat.{ℕ, suc, _<_};
 ghost use mathlib.Core.Path.{_≡_};
 ghost use mathlib.Core.Bool.{cond};
@@ -7,6 +7,7 @@ ghost use lib.Dec.{ltb};
 ghost use Rattle.protocol.specs.Store.{Store, storeEntry, storeRecord, storeBlank, storeReplica, storeSlot};
 ghost use Rattle.recovery.specs.NextStore.{storeOf};
 ghost use Rattle.recovery.specs.Note.{SlotSet, Noted};
+use image::MAX_SLOTS;
 use image::condition;
 use planner::Survey;
 use recovery::NextStore;
@@ -20,8 +21,8 @@ fn with_slot(survey: Survey, c: usize, k: usize, length: usize, condition: u8, e
     let mut conditions = survey.conditions;
     let mut epochs = survey.epochs;
     lengths[c] = length;
-    conditions[c * 64 + k] = condition;
-    epochs[c * 64 + k] = epoch;
+    conditions[c * MAX_SLOTS + k] = condition;
+    epochs[c * MAX_SLOTS + k] = epoch;
     Survey {
         readable: survey.readable,
         lengths,
@@ -39,7 +40,7 @@ fn note_entry(survey: Survey, c: usize, k: usize) -> Survey
     if length <= k {
         return survey;
     }
-    let epoch = survey.epochs[c * 64 + k];
+    let epoch = survey.epochs[c * MAX_SLOTS + k];
     with_slot(survey, c, k, length, condition::WHOLE, epoch)
 }
 

@@ -1,4 +1,4 @@
-// The first store still outstanding, of what is seen of the replicas. Slot k of replica c stands at c * 64 + k. Replicas and slots
+// The first store still outstanding, of what is seen of the replicas. Slot k of replica c stands at c * MAX_SLOTS + k. Replicas and slots
 // count from 0.
 ghost use Prim.Native.Nat.{ℕ, _+_, _*_, _-_, _<_, _≤_};
 ghost use mathlib.Core.Path.{_≡_};
@@ -18,26 +18,26 @@ ghost use Rattle.planner.specs.Survey.{SurveyIs, PlanIs};
 ghost use Rattle.protocol.specs.Recovery.{_or_, leaderStore, followerStore, unlike, due, followersStore, isSome};
 ghost use Rattle.recovery.specs.NextStore.{storeOf};
 ghost use Rattle.recovery.specs.Look.{InRange, Answering, Sees, clusterIn, missingStore};
+use image::MAX_SLOTS;
 use image::condition;
 use locate::ENTRY_SIZE;
 use locate::entry_in;
 use planner::Plan;
+use planner::SURVEY_SLOTS;
 use planner::Survey;
+use planner::action;
 use recovery::NextStore;
 use recovery::Shape;
 use survey::sets::contains;
 
-// A plan byte that says fetch is this and the number of the replica to fetch from.
-const FETCH: u8 = 10;
-
 // The lowest slot of replica c below the bound whose condition has this number; the bound if there is none.
-fn first_with(conditions: &[u8; 448], c: usize, number: u8, bound: usize) -> usize
+fn first_with(conditions: &[u8; SURVEY_SLOTS], c: usize, number: u8, bound: usize) -> usize
     requires { ⌜ (c < 7) × (bound ≤ 64) ⌝ }
     ensures { λ r. ⌜ r ≡ lowest (λ k. eqb (getD (now (conditions .entry)) (c * 64 + k) 0) number) bound ⌝ }
 {
     let mut k: usize = 0;
     while k < bound {
-        if conditions[c * 64 + k] == number {
+        if conditions[c * MAX_SLOTS + k] == number {
             return k;
         }
         k += 1;
@@ -46,13 +46,13 @@ fn first_with(conditions: &[u8; 448], c: usize, number: u8, bound: usize) -> usi
 }
 
 // The lowest slot below the end whose plan byte says fetch; the end if there is none.
-fn first_fetched(bytes: &[u8; 64], end: usize) -> usize
+fn first_fetched(bytes: &[u8; MAX_SLOTS], end: usize) -> usize
     requires { ⌜ end ≤ 64 ⌝ }
     ensures { λ r. ⌜ r ≡ lowest (λ k. ltb 10 (getD (now (bytes .entry)) k 0)) end ⌝ }
 {
     let mut k: usize = 0;
     while k < end {
-        if FETCH < bytes[k] {
+        if action::FETCH < bytes[k] {
             return k;
         }
         k += 1;
@@ -63,7 +63,7 @@ fn first_fetched(bytes: &[u8; 64], end: usize) -> usize
 // The lowest slot of replica c whose epoch differs from the leader's or which lies beyond the leader's length, `limit`; one past its last if
 // there is none.
 fn first_differing(
-    epochs: &[u32; 448],
+    epochs: &[u32; SURVEY_SLOTS],
     leader: usize,
     limit: usize,
     c: usize,
@@ -78,7 +78,7 @@ fn first_differing(
         if limit <= k {
             return k;
         }
-        if epochs[c * 64 + k] != epochs[leader * 64 + k] {
+        if epochs[c * MAX_SLOTS + k] != epochs[leader * MAX_SLOTS + k] {
             return k;
         }
         k += 1;
@@ -105,7 +105,7 @@ fn donor_in(byte: u8) -> usize
     requires { ⌜ 10 < byte ⌝ }
     ensures { λ r. ⌜ r ≡ byte - 11 ⌝ }
 {
-    (byte - FETCH - 1) as usize
+    (byte - action::FETCH - 1) as usize
 }
 
 // The leader's first store: records blanked from the last slot down to the end; fetched entries, lowest first; lost records, lowest first.
@@ -134,7 +134,7 @@ fn leader_store(survey: Survey, plan: Plan, leader: usize) -> NextStore
         return NextStore::Record {
             c: leader,
             k: lost,
-            epoch: survey.epochs[leader * 64 + lost],
+            epoch: survey.epochs[leader * MAX_SLOTS + lost],
         };
     }
     NextStore::Nothing
@@ -152,7 +152,7 @@ fn missing_store(cluster: &[u8], survey: Survey, shape: Shape, c: usize) -> Next
         return NextStore::Nothing;
     }
     if !entry_differs(cluster, shape, c, k) {
-        let epoch = survey.epochs[leader * 64 + k];
+        let epoch = survey.epochs[leader * MAX_SLOTS + k];
         return NextStore::Record { c, k, epoch };
     }
     NextStore::Entry {
@@ -189,7 +189,7 @@ fn follower_store(cluster: &[u8], survey: Survey, shape: Shape, c: usize) -> Nex
         return NextStore::Record {
             c,
             k: lost,
-            epoch: survey.epochs[c * 64 + lost],
+            epoch: survey.epochs[c * MAX_SLOTS + lost],
         };
     }
     missing_store(cluster, survey, shape, c)

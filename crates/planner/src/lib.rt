@@ -2,6 +2,8 @@
 // `decide`'s, `tabulate`'s and `plan`'s.
 ghost use Rattle.planner.specs.AskingClaim.{AskingClaim};
 ghost use Rattle.planner.specs.PlanRows.{PlanRows};
+use image::MAX_REPLICAS;
+use image::MAX_SLOTS;
 
 pub mod action; // action.rt: the plan's bytes
 
@@ -24,17 +26,17 @@ pub struct ReplicaRow {
 pub const SURVEY_SLOTS: usize = 448;
 
 // The readable set; and for each readable replica the length of its log, and the condition's number and the epoch of each
-// slot. Slot k of replica c stands at c * 64 + k.
+// slot. Slot k of replica c stands at c * MAX_SLOTS + k.
 pub struct Survey {
     pub readable: u32,
-    pub lengths: [usize; 7],
+    pub lengths: [usize; MAX_REPLICAS],
     pub conditions: [u8; SURVEY_SLOTS],
     pub epochs: [u32; SURVEY_SLOTS],
 }
 
 // The leader's plan: a byte for each slot, the end of its log, and the lowest slot below that waits (the end if none does).
 pub struct Plan {
-    pub bytes: [u8; 64],
+    pub bytes: [u8; MAX_SLOTS],
     pub end: usize,
     pub waiting: usize,
 }

@@ -19,7 +19,7 @@ use crate::lines::PAGE_SIZE;
 use crate::lines::REFUSED_SIZE;
 use decide::Opening;
 use decide::open_cluster;
-use locate::MAX_SLOTS;
+use image::MAX_SLOTS;
 use planner::SURVEY_SLOTS;
 use report::Command;
 

@@ -7,7 +7,7 @@ ghost use Rattle.search.specs.Search.{joined};
 ghost use Rattle.slices.specs.Parts.{spliced};
 ghost use Rattle.report.specs.Report.{refusedLine, headLine, slotLine};
 ghost use Rattle.report.specs.Lines.{lineFrom};
-use locate::MAX_SLOTS;
+use image::MAX_SLOTS;
 use planner::SURVEY_SLOTS;
 
 // The sizes of what is printed: the line of a refusal, the first line of a plan, and the line of a slot.
