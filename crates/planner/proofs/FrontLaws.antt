@@ -6,7 +6,7 @@ use native.Mathlib.Omega.{arith}
 use lib.ListN.{length, getD, set, take, drop, length-append, length-drop, drop-of-length-le}
 use lib.Seq.{take-suc, drop-cons, append-snoc, set-at, length-take-le}
 use Rattle.planner.specs.declared.ReplicaRow.{ReplicaRow}
-use Rattle.planner.specs.Answers.{noRow, frontRows}
+use Rattle.planner.specs.Tabulated.{noRow, frontRows}
 
 pub front-none : (new old : List ReplicaRow) → old ≡ frontRows 0 new old
 unfolding frontRows

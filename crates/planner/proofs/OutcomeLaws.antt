@@ -20,7 +20,8 @@ use Rattle.planner.specs.declared.PlanAnswer.{PlanAnswer}
 use Rattle.planner.specs.declared.PlanAnswer.the-variants as plan
 use Rattle.planner.specs.declared.ReplicaRow.{ReplicaRow}
 use Rattle.planner.specs.Survey.{SurveyOf, Planned}
-use Rattle.planner.specs.Answers.{answered, answerAt, planAnswer, rowsOf, frontRows, numberRow, Outcome}
+use Rattle.planner.specs.Answers.{answered, planAnswer, rowsOf}
+use Rattle.planner.specs.Tabulated.{answerAt, frontRows, numberRow, Outcome}
 use Rattle.planner.proofs.RowLaws.{lengths-fit, rows-are}
 use Rattle.planner.proofs.SeenLaws.{size-le}
 use Rattle.planner.proofs.ShapeLaws.{shaped-size}

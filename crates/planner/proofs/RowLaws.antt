@@ -15,7 +15,8 @@ use Rattle.image.specs.View.{View}
 use Rattle.planner.specs.Setting.{has}
 use Rattle.planner.specs.Plan.{rowLength, rowEpoch}
 use Rattle.planner.specs.Survey.{Surveyed}
-use Rattle.planner.specs.Answers.{rowOf, noRow, lastEpoch, numberRow}
+use Rattle.planner.specs.Answers.{rowOf}
+use Rattle.planner.specs.Tabulated.{noRow, lastEpoch, numberRow}
 
 module _ (readable : ℕ) (lengths epochs : List ℕ) (c : ℕ) where
   pub row-off : has readable c ≡ false → noRow ≡ numberRow readable lengths epochs c

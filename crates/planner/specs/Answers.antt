@@ -1,15 +1,14 @@
 -- The planner's answer in document 01's numbers, and the rows of its table.
-use Prim.Native.Nat.{ℕ, suc, _+_, _*_, _-_}
-use mathlib.Core.Path.{_≡_}
+use Prim.Native.Nat.{ℕ, suc}
 use mathlib.Core.Bool.{cond}
-use mathlib.Core.List.{List, _++_}
-use lib.Dec.{eqb, ltb}
-use lib.ListN.{length, getD, take, drop}
+use mathlib.Core.List.{List}
+use lib.Dec.{eqb}
+use lib.ListN.{length}
 use Rattle.search.specs.Search.{oneIf, listed}
 use Rattle.slices.specs.Parts.{Bytes}
 use Rattle.image.specs.Refusal.{unlessRefused}
 use Rattle.image.specs.View.{View}
-use Rattle.planner.specs.Setting.{Setting, settingOf, has}
+use Rattle.planner.specs.Setting.{Setting, settingOf}
 use Rattle.planner.specs.Rules.{Answer, Refused, Waiting, Ready, answer}
 use Rattle.planner.specs.Plan.{viewsIn, planRefusal, planBytes, rowLength, rowEpoch}
 use Rattle.planner.specs.declared.PlanAnswer.{PlanAnswer}
@@ -22,10 +21,6 @@ answered Refused = plan.Refused 12
 answered (Waiting k) = plan.Waiting (suc k)
 answered (Ready l) = plan.Ready l
 
--- the answer of a plan with this end and this lowest waiting slot
-unfoldable pub answerAt : ℕ → ℕ → PlanAnswer
-answerAt e w = cond (ltb w e) (plan.Waiting (suc w)) (plan.Ready e)
-
 unfoldable pub planAnswer : ℕ → Answer → PlanAnswer
 planAnswer refusal a = cond (eqb refusal 0) (answered a) (plan.Refused refusal)
 
@@ -36,40 +31,21 @@ rowOf v = record { readable = oneIf (v .readable); length = rowLength v; «last_
 unfoldable pub rowsOf : Setting → (ℕ → View) → List ReplicaRow
 rowsOf S W = listed (S .n) (λ c. rowOf (W c))
 
--- the planner's call, of n, m, the leader's number, the present set, the cluster, the lent plan and the lent table: its answer
+-- the plan and the table of a cluster, of n, m, the leader's number and the present set
+abbrev pub planIn : ℕ → ℕ → ℕ → ℕ → Bytes → Bytes
+planIn n m leading present b = planBytes (settingOf n m leading present) (viewsIn (settingOf n m leading present) b)
+
+abbrev pub rowsIn : ℕ → ℕ → ℕ → ℕ → Bytes → List ReplicaRow
+rowsIn n m leading present b = rowsOf (settingOf n m leading present) (viewsIn (settingOf n m leading present) b)
+
+-- the planner's call with a lent plan and a lent table: its answer
 abbrev pub planCallAnswer : ℕ → ℕ → ℕ → ℕ → Bytes → ℕ → ℕ → PlanAnswer
-planCallAnswer n m leader present b plan rows =
-    planAnswer (planRefusal n m leader present b plan rows) (answer (settingOf n m leader present) (viewsIn (settingOf n m leader present) b))
+planCallAnswer n m leading present b plan rows =
+    planAnswer (planRefusal n m leading present b plan rows) (answer (settingOf n m leading present) (viewsIn (settingOf n m leading present) b))
 
 -- what it leaves in the plan and in the table
 abbrev pub planLeft : ℕ → ℕ → ℕ → ℕ → Bytes → Bytes → ℕ → Bytes
-planLeft n m leader present b plan rows =
-    unlessRefused (planRefusal n m leader present b (length plan) rows) (planBytes (settingOf n m leader present) (viewsIn (settingOf n m leader present) b)) plan
+planLeft n m leading present b plan rows = unlessRefused (planRefusal n m leading present b (length plan) rows) (planIn n m leading present b) plan
 
 abbrev pub rowsLeft : ℕ → ℕ → ℕ → ℕ → Bytes → ℕ → List ReplicaRow → List ReplicaRow
-rowsLeft n m leader present b plan rows =
-    unlessRefused (planRefusal n m leader present b plan (length rows)) (rowsOf (settingOf n m leader present) (viewsIn (settingOf n m leader present) b)) rows
-
--- ---- for proofs only: what is between the survey's numbers and the table
-
-unfoldable pub noRow : ReplicaRow
-noRow = record { readable = 0; length = 0; «last_epoch» = 0 }
-
--- the rows, the first k of them anew
-unfoldable pub frontRows : ℕ → List ReplicaRow → List ReplicaRow → List ReplicaRow
-frontRows k new old = take k new ++ drop k old
-
--- the same from a survey's numbers
-unfoldable pub lastEpoch : List ℕ → ℕ → ℕ → ℕ
-lastEpoch epochs c l = cond (eqb l 0) 0 (getD epochs (c * 64 + l - 1) 0)
-
-unfoldable pub numberRow : ℕ → List ℕ → List ℕ → ℕ → ReplicaRow
-numberRow readable lengths epochs c =
-    cond (has readable c) (record { readable = 1; length = getD lengths c 0; «last_epoch» = lastEpoch epochs c (getD lengths c 0) }) noRow
-
--- what the planner found: its answer, how many rows there are to fill, and the rows
-pub record Outcome (refusal : ℕ) (S : Setting) (W : ℕ → View) (a : PlanAnswer) (count : ℕ) (rows : List ReplicaRow) : Type 0 where
-  pub sized : length rows ≡ 7
-  pub answer-is : a ≡ planAnswer refusal (answer S W)
-  pub count-is : count ≡ cond (eqb refusal 0) (S .n) 0
-  pub rows-are : refusal ≡ 0 → take (S .n) rows ≡ rowsOf S W
+rowsLeft n m leading present b plan rows = unlessRefused (planRefusal n m leading present b plan (length rows)) (rowsIn n m leading present b) rows

@@ -5,5 +5,6 @@ pub mod Plan
 pub mod Sets
 pub mod Survey
 pub mod Answers
+pub mod Tabulated
 pub mod PlanRows
 pub mod AskingClaim

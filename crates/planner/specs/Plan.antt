@@ -1,7 +1,6 @@
 -- The planner's call: its refusal, its answer in document 01's numbers, the plan bytes and the rows of the table.
-use Prim.Native.Nat.{ℕ, pred, suc, _+_, _*_, _^_, _-_}
-use mathlib.Core.Bool.{Bool, true, false, cond, not, _&&_}
-use mathlib.Core.List.{List}
+use Prim.Native.Nat.{ℕ, pred, suc, _+_, _^_, _-_}
+use mathlib.Core.Bool.{cond, not, _&&_}
 use lib.Dec.{eqb, leb, ltb}
 use lib.ListN.{length}
 use Rattle.search.specs.Search.{listed}
@@ -23,16 +22,16 @@ shapeRefusal n m present size =
 
 -- these, and 12: the refusals of planning, step and run
 unfoldable pub clusterRefusal : ℕ → ℕ → ℕ → ℕ → Bytes → ℕ
-clusterRefusal n m leader present b =
+clusterRefusal n m leading present b =
     shapeRefusal n m present (length b)
-    else refuse 12 (not (isReplica n leader && viewsIn (settingOf n m leader present) b (pred leader) .readable))
+    else refuse 12 (not (isReplica n leading && viewsIn (settingOf n m leading present) b (pred leading) .readable))
 
 -- 13, after all else that applies: the plan has not m bytes, or the table not n rows
 unfoldable pub lentRefusal : ℕ → ℕ → ℕ → ℕ → ℕ → ℕ
 lentRefusal refusal n m plan rows = refusal else refuse 13 (not (eqb plan m && eqb rows n))
 
 unfoldable pub planRefusal : ℕ → ℕ → ℕ → ℕ → Bytes → ℕ → ℕ → ℕ
-planRefusal n m leader present b plan rows = lentRefusal (clusterRefusal n m leader present b) n m plan rows
+planRefusal n m leading present b plan rows = lentRefusal (clusterRefusal n m leading present b) n m plan rows
 
 -- 0 unused, 1 whole, 2 record to be rewritten
 unfoldable pub keptByte : Condition → ℕ

@@ -1,11 +1,11 @@
 -- Document 01's starred places about the rules: n = 5, and the leader's only slot is faulty.
 use Prim.Native.Nat.{ℕ, zero, suc}
 use mathlib.Core.Path.{_≡_}
-use mathlib.Core.Bool.{Bool, true, false}
-use mathlib.Core.List.{List, [], _∷_}
-use Rattle.image.specs.View.{Condition, Unused, Whole, Faulty, View}
+use mathlib.Core.Bool.{true, false}
+use mathlib.Core.List.{[], _∷_}
+use Rattle.image.specs.View.{Unused, Whole, Faulty, View}
 use Rattle.planner.specs.Setting.{Setting, settingOf}
-use Rattle.planner.specs.Rules.{Answer, Waiting, Ready, answer}
+use Rattle.planner.specs.Rules.{Waiting, Ready, answer}
 use Rattle.planner.specs.Plan.{planBytes}
 use Rattle.planner.specs.Answers.{answered}
 use Rattle.planner.specs.declared.PlanAnswer.the-variants as plan

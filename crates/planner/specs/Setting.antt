@@ -2,7 +2,6 @@
 use Prim.Native.Nat.{ℕ, pred, _/_, _%_, _^_}
 use mathlib.Core.Bool.{Bool}
 use lib.Dec.{eqb}
-use Rattle.image.specs.Image.{Image}
 use Rattle.image.specs.View.{View, viewOf}
 use Rattle.image.specs.Cluster.{Cluster}
 
@@ -19,7 +18,7 @@ has w c = eqb (w / 2 ^ c % 2) 1
 
 -- n, m, the leader's number (from 1) and the present set as a word
 unfoldable pub settingOf : ℕ → ℕ → ℕ → ℕ → Setting
-settingOf n m leader present = record { n = n; m = m; leader = pred leader; present = has present }
+settingOf n m leading present = record { n = n; m = m; leader = pred leading; present = has present }
 
 -- what is seen of each replica
 unfoldable pub viewsOf : Setting → Cluster → ℕ → View

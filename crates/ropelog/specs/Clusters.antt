@@ -1,11 +1,6 @@
 -- What the calls about a cluster hand out.
 use Prim.Native.Nat.{ℕ}
-use mathlib.Core.List.{List}
 use Rattle.slices.specs.Parts.{Bytes}
-use Rattle.planner.specs.Setting.{settingOf}
-use Rattle.planner.specs.Plan.{viewsIn, planBytes}
-use Rattle.planner.specs.Answers.{rowsOf}
-use Rattle.planner.specs.declared.ReplicaRow.{ReplicaRow}
 use Rattle.protocol.specs.Call.{plan, step, run}
 use Rattle.protocol.specs.CallResult.{Result, refused, waiting, ready, stored, recovered, spent, callResult}
 use Rattle.recovery.specs.Answers.{numbers}
@@ -19,13 +14,6 @@ stepCalled n m leading present b = callResult (numbers n m leading present) step
 
 abbrev pub runCalled : ℕ → ℕ → ℕ → ℕ → Bytes → ℕ → Result
 runCalled n m leading present b budget = callResult (numbers n m leading present) (run budget) b
-
--- the plan and the table that the planner fills unless it refuses
-abbrev pub planIn : ℕ → ℕ → ℕ → ℕ → Bytes → Bytes
-planIn n m leading present b = planBytes (settingOf n m leading present) (viewsIn (settingOf n m leading present) b)
-
-abbrev pub rowsIn : ℕ → ℕ → ℕ → ℕ → Bytes → List ReplicaRow
-rowsIn n m leading present b = rowsOf (settingOf n m leading present) (viewsIn (settingOf n m leading present) b)
 
 -- the refusal in what a call answers; 0 if it is none
 abbrev pub resultRefusal : Result → ℕ

@@ -48,7 +48,8 @@ use Rattle.image.specs.View.{View}
 use Rattle.planner.specs.Setting.{Setting, settingOf}
 use Rattle.planner.specs.Rules.{answer}
 use Rattle.planner.specs.Plan.{viewsIn, planRefusal, planBytes}
-use Rattle.planner.specs.Answers.{planAnswer, rowsOf, frontRows, Outcome}
+use Rattle.planner.specs.Answers.{planAnswer, rowsOf}
+use Rattle.planner.specs.Tabulated.{frontRows, Outcome}
 use Rattle.image.specs.Refusal.{unlessRefused}
 use Rattle.planner.proofs.OutcomeLaws.{fill-asks, call-answers, call-fills}
 use Rattle.planner.proofs.ReplicaRow as T

@@ -52,7 +52,7 @@ use denote.Triple.Walked.{says, needs, Stays, stay-none, stay-slice, walkOf, goe
 use denote.Exit.{yes}
 use Rattle.planner.specs.declared.ReplicaRow.{ReplicaRow}
 use Rattle.tabulate.specs.declared.PlanOutcome.{PlanOutcome}
-use Rattle.planner.specs.Answers.{noRow, frontRows}
+use Rattle.planner.specs.Tabulated.{noRow, frontRows}
 use Rattle.planner.proofs.FrontLaws.{front-none, front-more, front-length}
 use Rattle.planner.proofs.ReplicaRow as T
 use Rattle.planner.proofs.ReplicaRow.Laws as T′

@@ -1,5 +1,5 @@
 use mathlib.Core.Path.{refl}
-use Rattle.planner.specs.Answers.{noRow}
+use Rattle.planner.specs.Tabulated.{noRow}
 use borrow.Author.Needs.{needs}
 use Rattle.tabulate.proofs.outcome_row.Statement.{statement}
 use Rattle.tabulate.proofs.outcome_row.Tie as tie

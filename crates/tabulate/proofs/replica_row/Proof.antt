@@ -1,4 +1,4 @@
-use Rattle.planner.specs.Answers.{noRow, lastEpoch}
+use Rattle.planner.specs.Tabulated.{noRow, lastEpoch}
 use mathlib.Core.Path.{refl, sym, _∙_}
 use borrow.Author.Tests.{not-true, not-false}
 use Rattle.planner.proofs.RowLaws.{row-off, row-on}

@@ -2,7 +2,7 @@ use Prim.Native.Nat.{_-_, _≤_}
 use mathlib.Core.Path.{_≡_}
 use lib.ListN.{length, take}
 use Rattle.search.specs.Search.{listed}
-use Rattle.planner.specs.Answers.{numberRow}
+use Rattle.planner.specs.Tabulated.{numberRow}
 use Rattle.planner.proofs.RowLaws.{rows-none, rows-more, rows-all}
 use borrow.Author.Needs.{needs}
 use native.Mathlib.Omega.{arith}
