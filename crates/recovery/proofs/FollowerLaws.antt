@@ -1,7 +1,7 @@
 -- What a replica has still to get, and the first of the followers' stores, as the code comes to them.
 use Prim.Native.Nat.{ℕ, _≤_, _<_}
 use mathlib.Core.Path.{_≡_, sym, ap, _∙_}
-use mathlib.Core.Bool.{true, false, cond, not}
+use mathlib.Core.Bool.{Bool, true, false, cond, not}
 use mathlib.Core.Option.{Option, none, some}
 use native.Mathlib.Omega.{arith}
 use lib.Dec.{eqb, ltb}
@@ -54,6 +54,10 @@ module _ (S : Setting) (b : Bytes) where
         → o ≡ followerStore S (viewsIn S b) (unlike S (decode (S .n) (S .m) b) c) c → o ≡ due S (decode (S .n) (S .m) b) c
     unfolding due answers viewsIn
     due-answers leader el h r e = rw (ne-eqb c (S .leader) (λ q. h (q ∙ el)), r) e
+
+-- whether c is readable, by a test of replica d
+pub tested : (readable c d : ℕ) {x y : Bool} → x ≡ has readable d → d ≡ c → x ≡ y → has readable c ≡ y
+tested readable c d e i h = rw (← i) (sym e ∙ h)
 
 -- ---- the first of them
 

@@ -74,12 +74,13 @@ module _ (S : Setting) (W : ℕ → View) (other : Bool) (leader c : ℕ) where
       not-blanked : blanked ≡ none
       not-blanked = let a = d-is in let b = y .length-is in above-none differing own _ (omega arith)
 
-      pub follower-mends : (f : ℕ) → f ≡ lowest (λ k. eqb (getD conditions (c * 64 + k) 0) 3) d → f < d → some (storeEntry c f leader) ≡ followerStore S W other c
-      follower-mends f e h =
+      pub follower-mends : (f donor : ℕ) → f ≡ lowest (λ k. eqb (getD conditions (c * 64 + k) 0) 3) d → f < d → donor ≡ leader
+          → some (storeEntry c f donor) ≡ followerStore S W other c
+      follower-mends f donor e h i =
           let a = d-is in
           let b = fault-is e in
           let l : fault < differing = omega arith in
-          rw (all-four, b) (or-second blanked (mended or rewritten or added) _ not-blanked (or-first mended (rewritten or added) _ (below-some fault differing _ l)))
+          rw (all-four, b, i) (or-second blanked (mended or rewritten or added) _ not-blanked (or-first mended (rewritten or added) _ (below-some fault differing _ l)))
 
       module _ (f : ℕ) (e : f ≡ lowest (λ k. eqb (getD conditions (c * 64 + k) 0) 3) d) (whole : d ≤ f) where
         not-mended : mended ≡ none

@@ -53,11 +53,11 @@ module _ (S : Setting) (W : ℕ → View) (leader : ℕ) where
     lost-is : {f : ℕ} → f ≡ lowest (λ k. eqb (getD conditions (leader * 64 + k) 0) 2) final → f ≡ lost
     lost-is e = e ∙ rw (p .end-is) (lost-found x (end S W) (let a = end-le S W in let b = fits in omega arith))
 
-    pub leader-blanks : final < length → some (storeBlank leader (length - 1)) ≡ leaderStore S W
-    leader-blanks h =
+    pub leader-blanks : (k : ℕ) → final < length → k ≡ length - 1 → some (storeBlank leader k) ≡ leaderStore S W
+    leader-blanks k h i =
         let a = x .length-is in
         let b = p .end-is in
-        let q : length - 1 ≡ pred len = omega arith in
+        let q : k ≡ pred len = omega arith in
         rw (whole, q) (or-first one (two or three) _ (below-some (end S W) len _ (omega arith)))
 
     module _ (kept : length ≤ final) where

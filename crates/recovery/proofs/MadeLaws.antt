@@ -8,7 +8,7 @@ use native.Mathlib.Omega.{arith}
 use types.Run.{OneOf, miss}
 use denote.Enum.Declared.{tagOf}
 use Rattle.slices.specs.Parts.{Bytes, part, spliced}
-use Rattle.record.specs.Layout.{recordBytes, blankRecord}
+use Rattle.record.specs.Layout.{entrySize, recordBytes, blankRecord}
 use Rattle.image.specs.Image.{recordAt, entryAt}
 use Rattle.image.specs.Cluster.{imageAt}
 use Rattle.protocol.specs.Store.{Store}
@@ -24,10 +24,11 @@ module _ (m : ℕ) (b : Bytes) where
   unfolding after
   nothing-made e = rw e
 
-  pub entry-made : {s : NextStore} {c k d : ℕ} {a : Bytes} → s ≡ Entry c k d → a ≡ spliced b (imageAt m c + entryAt m k) (part b (imageAt m d + entryAt m k) 240)
-      → a ≡ after (storeOf s) b (λ t. afterStoreBytes m t b)
+  -- copied to `to` from `from`
+  pub entry-made : {s : NextStore} {c k d : ℕ} {a : Bytes} → s ≡ Entry c k d → (to from : ℕ) → to ≡ c → from ≡ d
+      → a ≡ spliced b (imageAt m to + entryAt m k) (part b (imageAt m from + entryAt m k) entrySize) → a ≡ after (storeOf s) b (λ t. afterStoreBytes m t b)
   unfolding after afterStoreBytes
-  entry-made e h = rw e h
+  entry-made e to from i j h = rw (e, ← i, ← j) h
 
   pub record-made : {s : NextStore} {c k e : ℕ} {a : Bytes} → s ≡ Record c k e → a ≡ spliced b (imageAt m c + recordAt k) (recordBytes e (suc k))
       → a ≡ after (storeOf s) b (λ t. afterStoreBytes m t b)
@@ -38,6 +39,11 @@ module _ (m : ℕ) (b : Bytes) where
       → a ≡ after (storeOf s) b (λ t. afterStoreBytes m t b)
   unfolding after afterStoreBytes
   blank-made e h = rw e h
+
+-- a record for slot k, where it stands
+pub record-placed : {a : Bytes} (b : Bytes) (e k : ℕ) {at to i : ℕ} → at ≡ to → i ≡ suc k → a ≡ spliced b at (recordBytes e i)
+    → a ≡ spliced b to (recordBytes e (suc k))
+record-placed b e k d q h = rw (← d, ← q) h
 
 -- nothing, and a store
 

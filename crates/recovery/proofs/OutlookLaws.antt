@@ -1,5 +1,5 @@
 -- What stands of a recovery, as the code comes to it.
-use Prim.Native.Nat.{ℕ, pred, _+_, _≤_, _<_}
+use Prim.Native.Nat.{ℕ, suc, pred, _≤_, _<_}
 use mathlib.Core.Path.{_≡_, refl, sym, ap, _∙_}
 use mathlib.Core.Bool.{true}
 use mathlib.Core.List.{List}
@@ -62,12 +62,13 @@ module _ (N : Numbers) (b : Bytes) (e : refusalIn N b ≡ 0) {leader : ℕ} {s :
     leads : viewsIn (named N) b (named N .leader) .readable ≡ true
     leads = accepted N b e .readable
 
-    pub waits : waiting < final → OutlookIs N b (outlook.Waiting (waiting + 1))
+    -- the slot by its number
+    pub waits : {slot : ℕ} → waiting < final → slot ≡ suc waiting → OutlookIs N b (outlook.Waiting slot)
     unfolding answer
-    waits h =
+    waits {slot} h i =
         let a = p .end-is in
         let w = p .waiting-is in
-        let q : pred (waiting + 1) ≡ waiting = omega arith in
+        let q : pred slot ≡ waiting = omega arith in
         (e, omega arith, rw (q, leads, lt-ltb (firstWaiting (named N) (viewsIn (named N) b)) (end (named N) (viewsIn (named N) b)) (omega arith)) (ap Waiting (sym w)))
 
     is-ready : final ≤ waiting → answer (named N) (viewsIn (named N) b) ≡ Ready (end (named N) (viewsIn (named N) b))

@@ -55,7 +55,7 @@ returns-2 c =
     let x = looked-leader s (v .slots-are) in
     let h = c .before .before .before .before .before .before .before .before .before .before .before .pre .replica-below in
     let y = looked s (v .slots-are) _ h (sym (s .surveyed .readable-is _ h) ∙ c .before .before .before .before .before .before .before .before .before .before .before .pre .replica-reads) in
-    follower-mends S (viewsIn S (c .before .before .before .before .before .before .before .before .before .before .before .args .cluster .now)) _ _ _ (s .leader-is) _ _ _ _ _ x y _ (c .before .before .before .before .before .first-differing .ensures) (c .before .before .before .before .if1 .left) _ (c .before .first-with .ensures) (c .if2 .taken)
+    follower-mends S (viewsIn S (c .before .before .before .before .before .before .before .before .before .before .before .args .cluster .now)) _ _ _ (s .leader-is) _ _ _ _ _ x y _ (c .before .before .before .before .before .first-differing .ensures) (c .before .before .before .before .if1 .left) _ _ (c .before .first-with .ensures) (c .if2 .taken) (omega arith)
 
 first-with-requires-2 : tie.Need-first-with-requires-2
 first-with-requires-2 c κs =

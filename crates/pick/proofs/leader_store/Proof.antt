@@ -4,6 +4,7 @@ use borrow.Author.Tests.{ltb-true}
 use Rattle.recovery.proofs.FollowerLaws.{looked-leader}
 use Rattle.recovery.proofs.LookLaws.{found-passes}
 use Rattle.recovery.proofs.LeaderStoreLaws.{leader-blanks, leader-fetches, leader-rewrites, leader-rests}
+use native.Mathlib.Omega.{arith}
 use borrow.Author.Needs.{needs}
 use Rattle.pick.proofs.leader_store.Statement.{statement}
 use Rattle.pick.proofs.leader_store.Tie as tie
@@ -18,7 +19,7 @@ sub-t15 : tie.Need-sub-t15
 sub-t15 c = search needs
 
 returns : tie.Need-returns
-returns c = λ S W n s p. leader-blanks S W _ (s .leader-is) _ _ _ _ _ _ (looked-leader s refl) p (c .if1 .taken)
+returns c = λ S W n s p. leader-blanks S W _ (s .leader-is) _ _ _ _ _ _ (looked-leader s refl) p _ (omega arith) (omega arith)
 
 first-fetched-requires : tie.Need-first-fetched-requires
 first-fetched-requires c κs = search needs

@@ -1,12 +1,13 @@
 -- `run_cluster` reads the images once, and notes each store that it makes.
-use Prim.Native.Nat.{_-_}
-use mathlib.Core.Path.{refl, sym, _∙_}
+use Prim.Native.Nat.{_+_, _-_}
+use mathlib.Core.Path.{_≡_, refl, sym, _∙_}
 use borrow.Author.Tests.{not-true, not-false}
 use Rattle.protocol.specs.Call.{named}
 use Rattle.recovery.specs.Answers.{numbers}
 use Rattle.recovery.proofs.OutcomeLaws.{refused-run, refused-run-bytes, waiting-run, waiting-run-bytes}
 use Rattle.recovery.proofs.OutlookLaws.{sees, in-range, end-fits, waits, readies}
 use Rattle.recovery.proofs.Noting.{Noting, noting-start, noting-fits, noting-within, noted-ready, noted-replica, noted-rests, noting-more, noting-size, noting-recovered, noting-ends}
+use native.Mathlib.Omega.{arith}
 use borrow.Author.Needs.{needs}
 use Rattle.run.proofs.run_cluster.Statement.{statement}
 use Rattle.run.proofs.run_cluster.Tie as tie
@@ -44,10 +45,10 @@ returns-2 c =
     let N = numbers (a .n) (a .m) (a .leading) (a .present) in
     let b = a .cluster .now in
     let o = c .before .before .before .before .before .open-cluster .ensures in
-    let t = c .before .before .before .before .if1 .left in
+    let t : c .before .before .before .before .before .open-cluster .result .refusal ≡ 0 = omega arith in
     let e = sym (o .0) ∙ t in
     let w = o .1 t in
-    let i = waits N b e (w .survey-is) (w .plan-is) (c .before .if2 .taken) in
+    let i = waits N b e (w .survey-is) (w .plan-is) {slot = c .before .before .before .before .before .open-cluster .result .plan .waiting + 1} (omega arith) (omega arith) in
     (waiting-run N b refl i (a .budget), waiting-run-bytes N b refl i (a .budget))
 
 first-store-requires : tie.Need-first-store-requires Inv-loop μ-loop
@@ -56,7 +57,7 @@ first-store-requires c κs =
     let N = numbers (a .n) (a .m) (a .leading) (a .present) in
     let b = a .cluster .now in
     let o = c .before .before .before .before .before .before .open-cluster .ensures in
-    let t = c .before .before .before .before .before .if1 .left in
+    let t : c .before .before .before .before .before .before .open-cluster .result .refusal ≡ 0 = omega arith in
     let e = sym (o .0) ∙ t in
     let w = o .1 t in
     (in-range N b e (w .survey-is), end-fits N b e (w .survey-is) (w .plan-is))
@@ -67,11 +68,11 @@ loop-holds c =
     let N = numbers (a .n) (a .m) (a .leading) (a .present) in
     let b = a .cluster .now in
     let o = c .before .before .before .before .before .before .before .open-cluster .ensures in
-    let t = c .before .before .before .before .before .before .if1 .left in
+    let t : c .before .before .before .before .before .before .before .open-cluster .result .refusal ≡ 0 = omega arith in
     let e = sym (o .0) ∙ t in
     let w = o .1 t in
     let s = w .survey-is in
-    let i = readies N b e s (w .plan-is) (c .before .before .before .if2 .left) (c .first-store .result) (c .first-store .ensures (named N) (sees N b e s) (w .plan-is)) in
+    let i = readies N b e s (w .plan-is) (omega arith) (c .first-store .result) (c .first-store .ensures (named N) (sees N b e s) (w .plan-is)) in
     noting-start N b _ (a .budget) _ _ i (record { accepts = e; sees = s; ready = i .1 })
 
 is-outstanding-requires : tie.Need-is-outstanding-requires Inv-loop μ-loop

@@ -1,8 +1,9 @@
 -- `view_recovery` opens the cluster, and looks for a store if the plan is ready.
-use mathlib.Core.Path.{sym, _∙_}
+use mathlib.Core.Path.{_≡_, sym, _∙_}
 use Rattle.protocol.specs.Call.{named}
 use Rattle.recovery.specs.Answers.{numbers}
 use Rattle.recovery.proofs.OutlookLaws.{sees, in-range, end-fits, waits, readies}
+use native.Mathlib.Omega.{arith}
 use borrow.Author.Needs.{needs}
 use Rattle.step.proofs.view_recovery.Statement.{statement}
 use Rattle.step.proofs.view_recovery.Tie as tie
@@ -22,9 +23,10 @@ returns-2 c =
     let N = numbers (a .n) (a .m) (a .leading) (a .present) in
     let b = a .cluster .now in
     let o = c .before .before .before .open-cluster .ensures in
-    let e = sym (o .0) ∙ c .before .before .if1 .left in
-    let w = o .1 (c .before .before .if1 .left) in
-    waits N b e (w .survey-is) (w .plan-is) (c .if2 .taken)
+    let t : c .before .before .before .open-cluster .result .refusal ≡ 0 = omega arith in
+    let e = sym (o .0) ∙ t in
+    let w = o .1 t in
+    waits N b e (w .survey-is) (w .plan-is) (omega arith) (omega arith)
 
 first-store-requires : tie.Need-first-store-requires
 first-store-requires c κs =
@@ -32,8 +34,9 @@ first-store-requires c κs =
     let N = numbers (a .n) (a .m) (a .leading) (a .present) in
     let b = a .cluster .now in
     let o = c .before .before .before .open-cluster .ensures in
-    let e = sym (o .0) ∙ c .before .before .if1 .left in
-    let w = o .1 (c .before .before .if1 .left) in
+    let t : c .before .before .before .open-cluster .result .refusal ≡ 0 = omega arith in
+    let e = sym (o .0) ∙ t in
+    let w = o .1 t in
     (in-range N b e (w .survey-is), end-fits N b e (w .survey-is) (w .plan-is))
 
 returns-3 : tie.Need-returns-3
@@ -42,9 +45,10 @@ returns-3 c =
     let N = numbers (a .n) (a .m) (a .leading) (a .present) in
     let b = a .cluster .now in
     let o = c .before .before .before .before .open-cluster .ensures in
-    let e = sym (o .0) ∙ c .before .before .before .if1 .left in
-    let w = o .1 (c .before .before .before .if1 .left) in
-    readies N b e (w .survey-is) (w .plan-is) (c .before .if2 .left) (c .first-store .result) (c .first-store .ensures (named N) (sees N b e (w .survey-is)) (w .plan-is))
+    let t : c .before .before .before .before .open-cluster .result .refusal ≡ 0 = omega arith in
+    let e = sym (o .0) ∙ t in
+    let w = o .1 t in
+    readies N b e (w .survey-is) (w .plan-is) (omega arith) (c .first-store .result) (c .first-store .ensures (named N) (sees N b e (w .survey-is)) (w .plan-is))
 
 pub view-recovery-spec : {M : Type 1} → statement M
 view-recovery-spec = tie.close (tie.spec open-cluster-requires returns add-t14 returns-2 first-store-requires returns-3)

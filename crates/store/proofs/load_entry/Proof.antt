@@ -1,12 +1,16 @@
 -- `load_entry` copies from the front: the first i bytes are the source's.
-use Prim.Native.Nat.{_-_, _≤_}
+use Prim.Native.Nat.{ℕ, _+_, _-_, _<_, _≤_}
 use mathlib.Core.Path.{_≡_}
 use native.Mathlib.Omega.{arith}
 use borrow.Author.Needs.{needs}
-use lib.ListN.{length, take}
+use lib.ListN.{length, getD, set, take}
+use Rattle.slices.specs.Parts.{Bytes}
 use Rattle.slices.proofs.LoopLaws.{copy-step, copy-end}
 use Rattle.store.proofs.load_entry.Statement.{statement}
 use Rattle.store.proofs.load_entry.Tie as tie
+
+copied : (d s : Bytes) (i : ℕ) {b : ℕ} → b ≡ getD s i 0 → i < length d → i < length s → take i d ≡ take i s → take (i + 1) (set d i b) ≡ take (i + 1) s
+copied d s i q h l e = rw q (copy-step d s i h l e)
 
 abbrev Inv-loop : tie.InvT-loop
 Inv-loop s entry₀ i₀ entry i = (i ≤ 240) × (length entry ≡ 240) × (take i entry ≡ take i s)
@@ -30,7 +34,7 @@ loop-less : tie.Need-loop-less Inv-loop μ-loop
 loop-less c = search needs
 
 loop-again : tie.Need-loop-again Inv-loop μ-loop
-loop-again c = (search needs, search needs, copy-step (c .before .before .loop .entry) (c .before .before .before .args .s .now) (c .before .before .loop .i) (omega arith) (omega arith) (c .before .before .loop .inv .2))
+loop-again c = (search needs, search needs, copied (c .before .before .loop .entry) (c .before .before .before .args .s .now) (c .before .before .loop .i) (omega arith) (omega arith) (omega arith) (c .before .before .loop .inv .2))
 
 returns : tie.Need-returns Inv-loop μ-loop
 returns c = copy-end (c .before .loop .entry) (c .before .before .args .s .now) (c .before .loop .i) (omega arith) (omega arith) (c .before .loop .inv .2)

@@ -14,7 +14,7 @@ enum-known-store c = search needs
 copy-entry-requires : tie.Need-copy-entry-requires
 copy-entry-requires c κs =
     let f = rw (c .before .before .store .given .1) at (c .before .before .before .before .before .pre .1) in
-    (omega arith, f .0, f .1, f .2)
+    (omega arith, omega arith, omega arith, omega arith)
 
 enum-known-store-2 : tie.Need-enum-known-store-2
 enum-known-store-2 c = search needs
@@ -39,7 +39,7 @@ same-length : tie.Need-same-length
 same-length c = search needs
 
 returns-2 : tie.Need-returns-2
-returns-2 c = entry-made _ _ (c .before .before .before .before .before .store .given .1) (c .before .before .copy-entry .ensures)
+returns-2 c = entry-made _ _ (c .before .before .before .before .before .store .given .1) _ _ (omega arith) (omega arith) (c .before .before .copy-entry .ensures)
 
 same-length-2 : tie.Need-same-length-2
 same-length-2 c = search needs

@@ -1,5 +1,5 @@
 -- `write_record` splices the record in where it stands.
-use native.Mathlib.Numerals.{add-one}
+use Rattle.recovery.proofs.MadeLaws.{record-placed}
 use Rattle.recovery.proofs.OffsetLaws.{record-room}
 use native.Mathlib.Omega.{arith}
 use borrow.Author.Needs.{needs}
@@ -24,7 +24,7 @@ same-length : tie.Need-same-length
 same-length c = search needs
 
 returns : tie.Need-returns
-returns c = rw (← c .before .before .before .before .record-in .ensures, ← add-one) (c .before .before .put-record .ensures)
+returns c = record-placed _ _ _ (c .before .before .before .before .record-in .ensures) (omega arith) (c .before .before .put-record .ensures)
 
 pub write-record-spec : {M : Type 1} → statement M
 write-record-spec =
