@@ -7,5 +7,5 @@ pub const TRUNCATE: u8 = 4;
 
 pub const BEHIND: u8 = 5;
 
-// And the number of the replica to fetch from.
+// Added to the number of the replica to fetch from.
 pub const FETCH: u8 = 10;

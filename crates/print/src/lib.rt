@@ -12,11 +12,11 @@ ghost use Rattle.report.specs.Lines.{lineFrom};
 use crate::command::COMMAND_SIZE;
 use crate::command::present_word;
 use crate::command::read_command;
-use crate::lines::HEADING_SIZE;
-use crate::lines::Heading;
-use crate::lines::LINE_SIZE;
-use crate::lines::PAGE_SIZE;
-use crate::lines::REFUSED_SIZE;
+use compose::HEADING_SIZE;
+use compose::Heading;
+use compose::LINE_SIZE;
+use compose::PAGE_SIZE;
+use compose::REFUSED_SIZE;
 use decide::Opening;
 use decide::open_cluster;
 use image::MAX_SLOTS;
@@ -24,7 +24,6 @@ use planner::SURVEY_SLOTS;
 use report::Command;
 
 mod command; // command.rt: the command line
-mod lines; // lines.rt: the lines that are printed
 
 // The status of a plan that can be made, and of one that waits.
 const READY: usize = 0;
@@ -52,7 +51,7 @@ fn report_refusal(number: u64) -> Report
     ensures { λ r. ⌜ Prints (refusedLine number) (r .bytes) (r .count) ⌝ }
 {
     let mut bytes = empty_page();
-    lines::write_refused(&mut bytes[0..REFUSED_SIZE], number);
+    compose::write_refused(&mut bytes[0..REFUSED_SIZE], number);
     Report {
         bytes: bytes,
         count: REFUSED_SIZE,
@@ -72,8 +71,8 @@ fn report_slots(
         ++ joined count (lineFrom (now (epochs .entry)) from (now (plan .entry)))) (r .bytes) (r .count) ⌝ }
 {
     let mut bytes = empty_page();
-    lines::write_heading(&mut bytes[0..HEADING_SIZE], heading);
-    lines::put_slots(&mut bytes, count, epochs, from, plan);
+    compose::write_heading(&mut bytes[0..HEADING_SIZE], heading);
+    compose::put_slots(&mut bytes, count, epochs, from, plan);
     Report {
         bytes: bytes,
         count: HEADING_SIZE + LINE_SIZE * count,

@@ -1,7 +1,7 @@
 use Rattle.report.proofs.LineLaws as law
 use borrow.Author.Needs.{needs}
-use Rattle.print.proofs.lines.write_slot.Statement.{statement}
-use Rattle.print.proofs.lines.write_slot.Tie as tie
+use Rattle.compose.proofs.write_slot.Statement.{statement}
+use Rattle.compose.proofs.write_slot.Tie as tie
 
 add-put-number : tie.Need-add-put-number
 add-put-number c = search needs

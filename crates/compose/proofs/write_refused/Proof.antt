@@ -1,7 +1,7 @@
 use Rattle.report.proofs.LineLaws as law
 use borrow.Author.Needs.{needs}
-use Rattle.print.proofs.lines.write_refused.Statement.{statement}
-use Rattle.print.proofs.lines.write_refused.Tie as tie
+use Rattle.compose.proofs.write_refused.Statement.{statement}
+use Rattle.compose.proofs.write_refused.Tie as tie
 
 slice-aggregate-put-bytes : tie.Need-slice-aggregate-put-bytes
 slice-aggregate-put-bytes c = search needs

@@ -1,7 +1,7 @@
 use Rattle.report.proofs.LineLaws as law
 use borrow.Author.Needs.{needs}
-use Rattle.print.proofs.lines.write_heading.Statement.{statement}
-use Rattle.print.proofs.lines.write_heading.Tie as tie
+use Rattle.compose.proofs.write_heading.Statement.{statement}
+use Rattle.compose.proofs.write_heading.Tie as tie
 
 put-number-requires : tie.Need-put-number-requires
 put-number-requires c κs = search needs

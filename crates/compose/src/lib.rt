@@ -1,4 +1,4 @@
-// The lines that are printed.
+// The lines that are printed, as bytes.
 ghost use Prim.Native.Nat.{_+_, _*_, _<_, _≤_};
 ghost use mathlib.Core.Path.{_≡_};
 ghost use mathlib.Core.List.{_++_};

@@ -2,8 +2,8 @@ use Prim.Native.Nat.{_-_, _≤_}
 use Rattle.report.proofs.LineLaws as law
 use borrow.Author.Needs.{needs}
 use native.Mathlib.Omega.{arith}
-use Rattle.print.proofs.lines.put_slots.Statement.{statement}
-use Rattle.print.proofs.lines.put_slots.Tie as tie
+use Rattle.compose.proofs.put_slots.Statement.{statement}
+use Rattle.compose.proofs.put_slots.Tie as tie
 
 abbrev Inv-loop : tie.InvT-loop
 Inv-loop out₀ count epochs from plan k₀ out k = (k ≤ count) × law.Lines out₀ epochs from plan k out

@@ -1,7 +1,7 @@
 use Rattle.report.proofs.LineLaws as law
 use borrow.Author.Needs.{needs}
-use Rattle.print.proofs.lines.put_slot.Statement.{statement}
-use Rattle.print.proofs.lines.put_slot.Tie as tie
+use Rattle.compose.proofs.put_slot.Statement.{statement}
+use Rattle.compose.proofs.put_slot.Tie as tie
 
 mul-at : tie.Need-mul-at
 mul-at c = search needs
