@@ -24,7 +24,7 @@ use recovery::Shape;
 use store::make_store;
 
 // The replica that a store is made on.
-fn replica_of(store: NextStore) -> usize
+fn made_on(store: NextStore) -> usize
     ensures { λ r. ⌜ ((t : Store) → storeOf store ≡ some t → r ≡ storeReplica t) ⌝ }
 {
     match store {
@@ -94,7 +94,7 @@ pub fn run_cluster(
         make_store(cluster, m, store);
         made += 1;
         survey = note_store(survey, store);
-        store = next_store(cluster, survey, shape, replica_of(store));
+        store = next_store(cluster, survey, shape, made_on(store));
     }
     run_answer(store, made)
 }

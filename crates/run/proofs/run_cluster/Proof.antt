@@ -105,8 +105,8 @@ note-store-requires c κs =
     let N = numbers (a .n) (a .m) (a .leading) (a .present) in
     noting-within N (c .before .before .before .before .before .before .before .loop .inv)
 
-replica-of-requires : tie.Need-replica-of-requires Inv-loop μ-loop
-replica-of-requires c κs = search needs
+made-on-requires : tie.Need-made-on-requires Inv-loop μ-loop
+made-on-requires c κs = search needs
 
 next-store-requires : tie.Need-next-store-requires Inv-loop μ-loop
 next-store-requires c κs =
@@ -116,7 +116,7 @@ next-store-requires c κs =
     let t = sym (c .before .before .before .before .before .before .before .before .is-outstanding .ensures) ∙ not-false _ (c .before .before .before .before .before .before .before .if3 .left) in
     let x = c .before .before .before .before .before .make-store .ensures in
     let f = c .before .before .note-store .ensures in
-    let q = c .replica-of .ensures in
+    let q = c .made-on .ensures in
     (record { leading = a .leading; present = a .present; is = noted-ready N g t x f }, noted-replica N g t x f q)
 
 loop-less : tie.Need-loop-less Inv-loop μ-loop
@@ -130,7 +130,7 @@ loop-again c =
     let t = sym (c .before .before .before .before .before .before .before .before .before .is-outstanding .ensures) ∙ not-false _ (c .before .before .before .before .before .before .before .before .if3 .left) in
     let x = c .before .before .before .before .before .before .make-store .ensures in
     let f = c .before .before .before .note-store .ensures in
-    let q = c .before .replica-of .ensures in
+    let q = c .before .made-on .ensures in
     noting-more N g t x f (c .before .before .before .before .before .before .before .before .before .before .loop-test .taken) (λ v. c .next-store .ensures (a .leading) (a .present) v (noted-rests N g t x f q))
 
 run-answer-requires : tie.Need-run-answer-requires Inv-loop μ-loop
@@ -149,4 +149,4 @@ returns-4 c =
     noting-ends N (c .before .before .loop .inv) (c .before .loop-test .left) (c .run-answer .ensures)
 
 pub run-cluster-spec : {M : Type 1} → statement M
-run-cluster-spec = tie.close (tie.spec Inv-loop μ-loop open-cluster-requires same-length returns add-t18 same-length-2 returns-2 first-store-requires loop-holds is-outstanding-requires same-length-3 returns-3 make-store-requires add-made note-store-requires replica-of-requires next-store-requires loop-less loop-again run-answer-requires same-length-4 returns-4)
+run-cluster-spec = tie.close (tie.spec Inv-loop μ-loop open-cluster-requires same-length returns add-t18 same-length-2 returns-2 first-store-requires loop-holds is-outstanding-requires same-length-3 returns-3 make-store-requires add-made note-store-requires made-on-requires next-store-requires loop-less loop-again run-answer-requires same-length-4 returns-4)

@@ -1,5 +1,6 @@
 -- `copy_entry` splices what it loaded.
 use Rattle.slices.proofs.SpliceLaws.{spliced-copy}
+use Rattle.record.specs.Layout.{entrySize}
 use Rattle.recovery.proofs.OffsetLaws.{entry-room}
 use native.Mathlib.Omega.{arith}
 use borrow.Author.Needs.{needs}
@@ -68,7 +69,7 @@ returns c =
     let r = entry-room (p .args .m) (p .args .donor) (p .args .k) _ (p .pre .1) (p .pre .3) in
     let from = c .before .before .before .before .before .before .before .before .before .entry-in .ensures in
     let to = c .before .before .before .before .before .entry-in2 .ensures in
-    rw (← to, ← from) (spliced-copy (p .args .cluster .now) _ _ 240 (omega arith) (c .before .before .before .before .before .before .load-entry .ensures) (c .before .before .copy-bytes .ensures))
+    rw (← to, ← from) (spliced-copy (p .args .cluster .now) _ _ entrySize (omega arith) (c .before .before .before .before .before .before .load-entry .ensures) (c .before .before .copy-bytes .ensures))
 
 pub copy-entry-spec : {M : Type 1} → statement M
 copy-entry-spec =

@@ -5,6 +5,7 @@ use native.Mathlib.Omega.{arith}
 use borrow.Author.Needs.{needs}
 use lib.ListN.{length, getD, set, take}
 use Rattle.slices.specs.Parts.{Bytes}
+use Rattle.record.specs.Layout.{entrySize}
 use Rattle.slices.proofs.LoopLaws.{copy-step, copy-end}
 use Rattle.store.proofs.load_entry.Statement.{statement}
 use Rattle.store.proofs.load_entry.Tie as tie
@@ -13,10 +14,10 @@ copied : (d s : Bytes) (i : ℕ) {b : ℕ} → b ≡ getD s i 0 → i < length d
 copied d s i q h l e = rw q (copy-step d s i h l e)
 
 abbrev Inv-loop : tie.InvT-loop
-Inv-loop s entry₀ i₀ entry i = (i ≤ 240) × (length entry ≡ 240) × (take i entry ≡ take i s)
+Inv-loop s entry₀ i₀ entry i = (i ≤ entrySize) × (length entry ≡ entrySize) × (take i entry ≡ take i s)
 
 abbrev μ-loop : tie.MeasureT-loop
-μ-loop s entry₀ i₀ entry i = 240 - i
+μ-loop s entry₀ i₀ entry i = entrySize - i
 
 loop-holds : tie.Need-loop-holds Inv-loop μ-loop
 loop-holds c = search needs

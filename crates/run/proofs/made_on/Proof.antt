@@ -1,11 +1,11 @@
--- `replica_of` goes by the kind of the store.
+-- `made_on` goes by the kind of the store.
 use mathlib.Core.Path.{refl, ap}
 use Rattle.protocol.specs.Store.{storeReplica}
 use Rattle.recovery.specs.NextStore.{storeOf}
 use Rattle.recovery.proofs.MadeLaws.{no-store, that-store}
 use borrow.Author.Needs.{needs}
-use Rattle.run.proofs.replica_of.Statement.{statement}
-use Rattle.run.proofs.replica_of.Tie as tie
+use Rattle.run.proofs.made_on.Statement.{statement}
+use Rattle.run.proofs.made_on.Tie as tie
 
 enum-told : tie.Need-enum-told
 enum-told c = search needs
@@ -34,8 +34,8 @@ returns-4 : tie.Need-returns-4
 unfolding storeReplica
 returns-4 c = that-store _ (ap storeOf (c .before .store3 .given .1)) refl
 
-pub replica-of-spec : {M : Type 1} → statement M
-replica-of-spec =
+pub made-on-spec : {M : Type 1} → statement M
+made-on-spec =
     tie.close
     (tie.spec
     enum-told
