@@ -8,8 +8,8 @@ use borrow.Author.Tests.{lt-ltb, le-ltb}
 use Rattle.search.proofs.SearchLaws.{lowest-is}
 use borrow.Author.Needs.{needs}
 use native.Mathlib.Omega.{arith}
-use Rattle.pick.proofs.first_fetched.Statement.{statement}
-use Rattle.pick.proofs.first_fetched.Tie as tie
+use Rattle.seek.proofs.first_fetched.Statement.{statement}
+use Rattle.seek.proofs.first_fetched.Tie as tie
 
 abbrev Inv-loop : tie.InvT-loop
 Inv-loop bytes end k₀ k = (k ≤ end) × ((j : ℕ) → j < k → ltb 10 (getD bytes j 0) ≡ false)

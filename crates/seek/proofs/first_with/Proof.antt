@@ -8,8 +8,8 @@ use borrow.Author.Tests.{eq-eqb, ne-eqb}
 use Rattle.search.proofs.SearchLaws.{lowest-is}
 use borrow.Author.Needs.{needs}
 use native.Mathlib.Omega.{arith}
-use Rattle.pick.proofs.first_with.Statement.{statement}
-use Rattle.pick.proofs.first_with.Tie as tie
+use Rattle.seek.proofs.first_with.Statement.{statement}
+use Rattle.seek.proofs.first_with.Tie as tie
 
 abbrev Inv-loop : tie.InvT-loop
 Inv-loop conditions c number bound k₀ k = (k ≤ bound) × ((j : ℕ) → j < k → eqb (getD conditions (c * 64 + j) 0) number ≡ false)

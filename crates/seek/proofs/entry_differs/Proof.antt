@@ -3,8 +3,8 @@ use Rattle.slices.proofs.SpliceLaws.{part-lent}
 use Rattle.recovery.proofs.OffsetLaws.{entry-room}
 use native.Mathlib.Omega.{arith}
 use borrow.Author.Needs.{needs}
-use Rattle.pick.proofs.entry_differs.Statement.{statement}
-use Rattle.pick.proofs.entry_differs.Tie as tie
+use Rattle.seek.proofs.entry_differs.Statement.{statement}
+use Rattle.seek.proofs.entry_differs.Tie as tie
 
 entry-in-requires : tie.Need-entry-in-requires
 entry-in-requires c κs = search needs

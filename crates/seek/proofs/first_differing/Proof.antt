@@ -8,8 +8,8 @@ use borrow.Author.Tests.{lt-ltb, le-ltb, eq-eqb, ne-eqb}
 use Rattle.search.proofs.SearchLaws.{lowest-is}
 use borrow.Author.Needs.{needs}
 use native.Mathlib.Omega.{arith}
-use Rattle.pick.proofs.first_differing.Statement.{statement}
-use Rattle.pick.proofs.first_differing.Tie as tie
+use Rattle.seek.proofs.first_differing.Statement.{statement}
+use Rattle.seek.proofs.first_differing.Tie as tie
 
 abbrev Inv-loop : tie.InvT-loop
 Inv-loop epochs leader limit c length k₀ k = (k ≤ length) × ((j : ℕ) → j < k → not (ltb j limit && eqb (getD epochs (c * 64 + j) 0) (getD epochs (leader * 64 + j) 0)) ≡ false)
