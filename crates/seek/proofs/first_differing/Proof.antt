@@ -21,7 +21,7 @@ loop-holds : tie.Need-loop-holds Inv-loop μ-loop
 loop-holds c = (search needs, below-none _)
 
 returns : tie.Need-returns Inv-loop μ-loop
-returns c = sym (lowest-is _ _ _ (omega arith) (c .before .before .loop .inv .1) (λ _. rw (le-ltb _ _ (c .if1 .taken))))
+returns c = sym (lowest-is _ _ _ (omega arith) (c .before .before .loop .inv .1) (λ _. rw (le-ltb (c .before .before .loop .k) (c .before .before .before .args .limit) (omega arith))))
 
 mul-if2 : tie.Need-mul-if2 Inv-loop μ-loop
 mul-if2 c = search needs
