@@ -17,7 +17,7 @@ use image::FormatAnswer;
 use locate::MAX_PAYLOAD;
 use locate::entry_at;
 use locate::record_at;
-use view::call_refusal;
+use vet::call_refusal;
 use view::last_epoch;
 use view::view_image;
 use write::put_blank;

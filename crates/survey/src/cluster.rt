@@ -31,7 +31,7 @@ fn shape_refusal(size: usize, n: usize, m: usize, present: u32) -> u8
     if MAX_SLOTS < m {
         return 1;
     }
-    if !view::is_size(n) {
+    if !vet::is_size(n) {
         return 2;
     }
     if size != image_at(m, n) {

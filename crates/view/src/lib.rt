@@ -1,26 +1,28 @@
-// What is seen of an image: the condition and epoch of each slot, the length of its log, and its refusals.
+// What is seen of an image: the condition and epoch of each slot, the length of its log, and whether it is refused.
 ghost use Prim.Native.Nat.{ℕ, _+_, _-_, _<_, _≤_};
 ghost use mathlib.Core.Path.{_≡_};
-ghost use mathlib.Core.Bool.{true, not, cond, _||_};
+ghost use mathlib.Core.Bool.{true, cond, _||_};
 ghost use mathlib.Core.List.{List};
 ghost use lib.Dec.{eqb};
 ghost use lib.ListN.{length, getD};
 ghost use Rattle.record.specs.Meaning.{Entry, good, bad};
 ghost use Rattle.record.specs.Judged.{recordAnswer, entryAnswer};
 ghost use Rattle.image.specs.Image.{imageSize, decodeImage};
-ghost use Rattle.image.specs.View.{isSize, isSlots, callRefusal, imageRefusal, readRefusal};
+ghost use Rattle.image.specs.View.{isSlots, imageRefusal, readRefusal};
 ghost use Rattle.image.specs.Seen.{Seen};
-ghost use Rattle.image.specs.Scan.{SlotIs, Scanned, lengthIn, noGapIn, noneLostIn, risingIn, scanRefusal};
+ghost use Rattle.image.specs.Scan.{SlotIs, Scanned};
 use image::MAX_SLOTS;
 use image::condition;
 use locate::ENTRY_SIZE;
 use locate::HEADER_SIZE;
 use locate::RECORD_SIZE;
 use locate::entry_at;
-use locate::image_size;
 use locate::record_at;
 use record::EntryState;
 use record::RecordState;
+use vet::call_refusal;
+use vet::log_length;
+use vet::scan_refusal;
 
 // One slot as the scan sees it: its condition's number and its epoch.
 struct Slot {
@@ -41,126 +43,6 @@ pub struct ImageView {
     pub length: usize,
     pub conditions: [u8; MAX_SLOTS],
     pub epochs: [u32; MAX_SLOTS],
-}
-
-// Whether a cluster may have n replicas.
-pub fn is_size(n: usize) -> bool
-    ensures { λ r. ⌜ r ≡ isSize n ⌝ }
-{
-    if n == 3 {
-        return true;
-    }
-    if n == 5 {
-        return true;
-    }
-    n == 7
-}
-
-// Refusals 1 to 3: what the caller names, and the size of the buffer.
-pub fn call_refusal(replica: usize, n: usize, m: usize, size: usize) -> u8
-    ensures { λ r. ⌜ r ≡ callRefusal replica n m size ⌝ }
-{
-    if m < 1 {
-        return 1;
-    }
-    if MAX_SLOTS < m {
-        return 1;
-    }
-    if !is_size(n) {
-        return 2;
-    }
-    if replica < 1 {
-        return 2;
-    }
-    if n < replica {
-        return 2;
-    }
-    if size != image_size(m) {
-        return 3;
-    }
-    0
-}
-
-// The log's length: the first slot that is unused.
-fn log_length(conditions: &[u8; MAX_SLOTS], m: usize) -> usize
-    requires { ⌜ m ≤ 64 ⌝ }
-    ensures { λ r. ⌜ r ≡ lengthIn m (now (conditions .entry)) ⌝ }
-{
-    let mut k: usize = 0;
-    while k < m {
-        if conditions[k] == condition::UNUSED {
-            return k;
-        }
-        k += 1;
-    }
-    k
-}
-
-// Whether a slot behind the log's end is used.
-fn has_gap(conditions: &[u8; MAX_SLOTS], m: usize, length: usize) -> bool
-    requires { ⌜ (m ≤ 64) × (length ≤ m) ⌝ }
-    ensures { λ r. ⌜ r ≡ not (noGapIn m length (now (conditions .entry))) ⌝ }
-{
-    let mut k = length;
-    while k < m {
-        if conditions[k] != condition::UNUSED {
-            return true;
-        }
-        k += 1;
-    }
-    false
-}
-
-// Whether a slot has lost both its record and its entry.
-fn has_lost(conditions: &[u8; MAX_SLOTS], m: usize) -> bool
-    requires { ⌜ m ≤ 64 ⌝ }
-    ensures { λ r. ⌜ r ≡ not (noneLostIn m (now (conditions .entry))) ⌝ }
-{
-    let mut k: usize = 0;
-    while k < m {
-        if conditions[k] == condition::LOST {
-            return true;
-        }
-        k += 1;
-    }
-    false
-}
-
-// Whether a used slot's epoch is below the one before it.
-fn falls(epochs: &[u32; MAX_SLOTS], m: usize, length: usize) -> bool
-    requires { ⌜ (m ≤ 64) × (length ≤ m) ⌝ }
-    ensures { λ r. ⌜ r ≡ not (risingIn m length (now (epochs .entry))) ⌝ }
-{
-    let mut k: usize = 0;
-    while k + 1 < length {
-        if epochs[k + 1] < epochs[k] {
-            return true;
-        }
-        k += 1;
-    }
-    false
-}
-
-// Refusals 5 to 7, each over the whole image.
-fn scan_refusal(
-    conditions: &[u8; MAX_SLOTS],
-    epochs: &[u32; MAX_SLOTS],
-    m: usize,
-    length: usize,
-) -> u8
-    requires { ⌜ (m ≤ 64) × (length ≤ m) ⌝ }
-    ensures { λ r. ⌜ r ≡ scanRefusal m length (now (conditions .entry)) (now (epochs .entry)) ⌝ }
-{
-    if has_gap(conditions, m, length) {
-        return 5;
-    }
-    if has_lost(conditions, m) {
-        return 6;
-    }
-    if falls(epochs, m, length) {
-        return 7;
-    }
-    0
 }
 
 // The record of slot k.

@@ -2,8 +2,8 @@
 use mathlib.Core.Path.{sym, _∙_}
 use Rattle.image.proofs.ScanLaws.{scan-gap, scan-lost, scan-falls, scan-none}
 use borrow.Author.Needs.{needs}
-use Rattle.view.proofs.scan_refusal.Statement.{statement}
-use Rattle.view.proofs.scan_refusal.Tie as tie
+use Rattle.vet.proofs.scan_refusal.Statement.{statement}
+use Rattle.vet.proofs.scan_refusal.Tie as tie
 
 has-gap-requires : tie.Need-has-gap-requires
 has-gap-requires c κs = search needs

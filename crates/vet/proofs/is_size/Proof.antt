@@ -1,7 +1,7 @@
 -- `is_size` tries the three sizes of a cluster.
 use Rattle.image.proofs.CallLaws.{size-3, size-5, size-7}
-use Rattle.view.proofs.is_size.Statement.{statement}
-use Rattle.view.proofs.is_size.Tie as tie
+use Rattle.vet.proofs.is_size.Statement.{statement}
+use Rattle.vet.proofs.is_size.Tie as tie
 
 returns : tie.Need-returns
 returns c = size-3 _ (c .if1 .taken)

@@ -4,8 +4,8 @@ use borrow.Author.Tests.{not-true, not-false}
 use Rattle.image.proofs.CallLaws.{slots-few, slots-many, is-slots, replica-low, replica-high, is-replica, call-slots, call-size, call-replica, call-bytes, call-none}
 use native.Mathlib.Omega.{arith}
 use borrow.Author.Needs.{needs}
-use Rattle.view.proofs.call_refusal.Statement.{statement}
-use Rattle.view.proofs.call_refusal.Tie as tie
+use Rattle.vet.proofs.call_refusal.Statement.{statement}
+use Rattle.vet.proofs.call_refusal.Tie as tie
 
 returns : tie.Need-returns
 returns c = call-slots _ _ _ _ (slots-few _ (c .if1 .taken))

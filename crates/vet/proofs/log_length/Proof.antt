@@ -6,8 +6,8 @@ use lib.ListN.{getD}
 use Rattle.image.proofs.ScanLaws.{length-found, length-end}
 use borrow.Author.Needs.{needs}
 use native.Mathlib.Omega.{arith}
-use Rattle.view.proofs.log_length.Statement.{statement}
-use Rattle.view.proofs.log_length.Tie as tie
+use Rattle.vet.proofs.log_length.Statement.{statement}
+use Rattle.vet.proofs.log_length.Tie as tie
 
 abbrev Inv-loop : tie.InvT-loop
 Inv-loop conditions m k₀ k = (k ≤ m) × ((j : ℕ) → j < k → getD conditions j 0 ≡ 0 → ⊥)

@@ -6,8 +6,8 @@ use Rattle.image.specs.Scan.{noneLostIn}
 use Rattle.image.proofs.ScanLaws.{lost-start, lost-more, lost-found, lost-none}
 use borrow.Author.Needs.{needs}
 use native.Mathlib.Omega.{arith}
-use Rattle.view.proofs.has_lost.Statement.{statement}
-use Rattle.view.proofs.has_lost.Tie as tie
+use Rattle.vet.proofs.has_lost.Statement.{statement}
+use Rattle.vet.proofs.has_lost.Tie as tie
 
 abbrev Inv-loop : tie.InvT-loop
 Inv-loop conditions m k₀ k = (k ≤ m) × (noneLostIn k conditions ≡ true)

@@ -6,8 +6,8 @@ use Rattle.image.specs.Scan.{noGapIn}
 use Rattle.image.proofs.ScanLaws.{gap-start, gap-more, gap-found, gap-none}
 use borrow.Author.Needs.{needs}
 use native.Mathlib.Omega.{arith}
-use Rattle.view.proofs.has_gap.Statement.{statement}
-use Rattle.view.proofs.has_gap.Tie as tie
+use Rattle.vet.proofs.has_gap.Statement.{statement}
+use Rattle.vet.proofs.has_gap.Tie as tie
 
 abbrev Inv-loop : tie.InvT-loop
 Inv-loop conditions m length k₀ k = (k ≤ m) × (length ≤ k) × (noGapIn k length conditions ≡ true)

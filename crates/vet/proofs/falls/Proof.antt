@@ -6,8 +6,8 @@ use Rattle.image.specs.Scan.{risingIn}
 use Rattle.image.proofs.ScanLaws.{falls-start, falls-more, falls-found, falls-none}
 use borrow.Author.Needs.{needs}
 use native.Mathlib.Omega.{arith}
-use Rattle.view.proofs.falls.Statement.{statement}
-use Rattle.view.proofs.falls.Tie as tie
+use Rattle.vet.proofs.falls.Statement.{statement}
+use Rattle.vet.proofs.falls.Tie as tie
 
 abbrev Inv-loop : tie.InvT-loop
 Inv-loop epochs m length k₀ k = (k ≤ m) × (risingIn k length epochs ≡ true)
