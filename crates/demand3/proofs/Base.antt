@@ -43,7 +43,7 @@ slot-payload (entryBad h) q y = absurd (h q y)
 
 damaged-length : (m : ℕ) (h : History) (i : Image) → Damaged m h i → logLength m i ≡ h .length
 unfolding logLength isBlank
-damaged-length m h i d = lowest-is (λ k. isBlank (i .records k)) m (h .length) (d .fits) (λ j b. slot-used (d .used j b)) (λ b. rw (d .unused (h .length) (omega arith) b))
+damaged-length m h i d = lowest-is (λ k. isBlank (i .records k)) m (h .length) (d .fits) (λ j b. slot-used (d .used j b)) (λ b. rw (d .unused b))
 
 -- ---- holders
 majority-some : (n : ℕ) → 1 ≤ majority n

@@ -10,7 +10,7 @@ use Rattle.image.specs.Image.{Image}
 use Rattle.image.specs.Cluster.{Cluster}
 use Rattle.image.specs.View.{Condition, Unused, Whole, RecordLost, Faulty, Lost, conditionAt, epochOf, epochAt, logLength}
 use Rattle.image.specs.Verdict.{verdictOf, verdictAt, isFresh}
-use Rattle.image.proofs.ViewLaws.{length-le}
+use Rattle.image.proofs.ViewLaws.{length-le, blank-next}
 use Rattle.planner.specs.Setting.{Setting}
 use Rattle.demand3.specs.Supposed.{DamagedSlot, undamaged, recordBad, entryBad, Damaged, Supposed}
 use Rattle.demand3.specs.Before.{Flight, FlightSlot, arrived, recordAlone, Before, SlotDamage, spared, recordDamaged, entryDamaged, unusedDamaged, Damage, payloadIn, historyOf, DamagedCluster}
@@ -70,7 +70,7 @@ module _ (m : ℕ) (f : Flight) (i : Image) (b : Before m f i) where
   history-damaged j d = record {
     fits = length-le m i;
     used = λ k h. slot-damaged (historyOf m f i .payload k) (flight-slot k h) (d .slots k (omega (arith, length-le m i)));
-    unused = λ k h km. blank-kept (d .slots k km) (b .behind k h km);
+    unused = λ h. blank-kept (d .slots (logLength m i) h) (blank-next m i h);
   }
 
 pub damaged-cluster : (S : Setting) (F : Cluster) (f : ℕ → Flight) (G : Cluster) (k e : ℕ) (p : Bytes) → DamagedCluster S F f G k e p → Supposed S G (λ c. historyOf (S .m) (f c) (F c)) k e p

@@ -9,7 +9,8 @@ use Rattle.protocol.specs.StepBytes.{stepsBytes}
 use Rattle.demand3.specs.Interrupted.{old, new, torn, whole, interrupted}
 use Rattle.protocol.specs.Call.{plan, step, run, budgetOf, refusalOf}
 use Rattle.demand3.specs.CallList.{CallList, finished, refused, made}
-use Rattle.example.specs.Damaged.{five, noise, damagedCluster}
+use Rattle.example.specs.Undamaged.{noise}
+use Rattle.example.specs.Damaged.{five, damagedCluster}
 use Rattle.example.specs.Visited.{blankedOne, tornOne, fetchedOne, twoMore, lastStored, lastCluster}
 use Rattle.demand3.specs.Played.{calls}
 use Rattle.example.proofs.ComputedLaws.{computed}

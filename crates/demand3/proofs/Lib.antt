@@ -12,4 +12,4 @@ pub mod QuietLaws
 pub mod RunLaws
 pub mod LeftLaws
 pub mod ExampleCalls
-pub mod ExampleSlots
+pub mod ExampleDamage

@@ -17,17 +17,19 @@ use Rattle.planner.specs.Plan.{viewsIn}
 use Rattle.planner.specs.Rules.{Ready, answer, end, firstWaiting}
 use Rattle.protocol.specs.StepBytes.{nextIn, stepsBytes}
 use Rattle.demand3.specs.Supposed.{History, held, Supposed}
+use Rattle.demand3.specs.Before.{Flight, historyOf, DamagedCluster}
 use Rattle.demand3.specs.CallList.{Request, CallList}
-use Rattle.protocol.specs.Call.{Numbers, named, refusalIn}
-use Rattle.protocol.specs.CallResult.{ready, callResult, planning}
+use Rattle.protocol.specs.Call.{step, Numbers, named, refusalIn}
+use Rattle.protocol.specs.CallResult.{ready, recovered, callResult, planning}
 use Rattle.demand3.specs.Claim.{readable, entryIn, recordIn, Stands, PartB}
 use Rattle.protocol.proofs.Reach.{reach-on}
 use Rattle.protocol.proofs.Runs.{reach-steps}
+use Rattle.demand3.proofs.BeforeLaws.{damaged-cluster}
 use Rattle.demand3.proofs.Base.{held-elim, base-holding, base-payload, used-held}
 use Rattle.demand3.proofs.Committed.{WholeWith, kept-used, kept-entry, used-payload, stands, ready-first, waits-first}
 use Rattle.protocol.proofs.Reached.{Reached, After}
 use Rattle.protocol.proofs.StepLaws.{steps-mean}
-use Rattle.protocol.proofs.CallLaws.{accepted, planning-refused, planning-result, run-bytes}
+use Rattle.protocol.proofs.CallLaws.{Standing, isRefused, isWaiting, isReady, standing, accepted, planning-refused, step-refused, planning-result, run-bytes}
 use Rattle.demand3.proofs.ReadableLaws.{readable-view}
 use Rattle.demand3.proofs.AfterCalls.{calls-reach, unchanged}
 use Rattle.demand3.proofs.AfterCalls as calls
@@ -75,7 +77,7 @@ module _ (N : Numbers) (b : Bytes) (h : refusalIn N b ≡ 0 → ⊥) (H : ℕ �
         isReady = λ c y. absurd (h y);
         waits = λ y. absurd (h y);
         mended = λ l j y. absurd (let w : _≡_ {A = ℕ} 0 1 = cc in omega arith);
-        atRest = λ l y. absurd (let w : _≡_ {A = ℕ} 0 1 = cc in omega arith);
+        atRest = λ y. absurd (let v = step-refused N b h in let w : _≡_ {A = ℕ} 0 1 = cc in omega arith);
       }
 
 -- it is not refused
@@ -105,6 +107,14 @@ module _ (N : Numbers) (b₀ b : Bytes) (x : refusalIn N b₀ ≡ 0) (v : After 
   first-ready : (l : ℕ) → callResult N (planning N) b₀ ≡ ready l → answer S (viewsIn S b) ≡ Ready l
   first-ready l y = v .facts .answers ∙ says-ready (answer S (viewsIn S b₀)) l (sym (planning-result N b₀ x) ∙ y)
 
+  -- a step that finds nothing outstanding: the plan was ready
+  rested : Standing N b → callResult N step b ≡ recovered 0 → (c : ℕ) → c < N .n → readable N b₀ c ≡ true → Stands S b c k e p
+  unfolding stepsBytes
+  rested (isRefused h) z = absurd (h (v .accepts))
+  rested (isWaiting y l a) z = absurd (let w = still-waiting N b y l a .steps in let o : _≡_ {A = ℕ} 0 1 = cc in omega arith)
+  rested (isReady y l a) z =
+      stood l 0 (ready-plan N b₀ x l (sym (v .facts .answers) ∙ a)) (says-recovered (nextIn S b) 0 (sym (ready-step N b y l a) ∙ z))
+
   part-b-accepted : PartB N b₀ H k e p b
   unfolding viewsIn settingOf stepsBytes
   part-b-accepted =
@@ -121,13 +131,17 @@ module _ (N : Numbers) (b₀ b : Bytes) (x : refusalIn N b₀ ≡ 0) (v : After 
         isReady = λ c y f cn h others. ready-plan N b₀ x (end S (viewsIn S b₀)) (ready-first S F₀ H k e p low s ok c cn h f others);
         waits = λ y f none-has.
             let w = waits-first S F₀ H k e p low s ok f none-has in
+            let still = still-waiting N b₀ x (firstWaiting S (viewsIn S b₀)) w in
+            let kept = v .facts .waiting (firstWaiting S (viewsIn S b₀)) w in
             record {
               slot = suc (firstWaiting S (viewsIn S b₀));
-              answer = still-waiting N b₀ x (firstWaiting S (viewsIn S b₀)) w .plans;
-              same = v .facts .waiting (firstWaiting S (viewsIn S b₀)) w;
+              answer = still .plans;
+              stepAnswer = rw kept (still .steps);
+              runAnswer = λ j. rw kept (still .runs j);
+              same = kept;
             };
         mended = λ l j y u c cn rd. rw (run-bytes N b (v .accepts) j) (stood l j y (none-left N b (v .accepts) l (first-ready l y) j u) c cn rd);
-        atRest = λ l y z c cn rd. stood l 0 y (says-recovered (nextIn S b) 0 (sym (ready-step N b (v .accepts) l (first-ready l y)) ∙ z)) c cn rd;
+        atRest = rested (standing N b);
       }
 
 -- after every list of calls
@@ -141,3 +155,10 @@ part-b N H k e p {b₀ = b₀} {b = b} s list = go (ℕ-discrete (refusalIn N b�
         let a = accepted N b₀ x in
         part-b-accepted N b₀ b x (calls.after N x list) (a .low) (calls-reach N (a .low) (a .size) list) H k e p s
     go (no h) = rw (unchanged N h list) (part-b-refused N b₀ h H k e p s)
+
+-- from the cluster before its damage
+pub part-b-whole : (N : Numbers) (qs : List Request) (F : Cluster) (f : ℕ → Flight) (b₀ b : Bytes) (k e : ℕ) (p : Bytes)
+    → DamagedCluster (named N) F f (decode (N .n) (N .m) b₀) k e p → CallList N qs b₀ b → PartB N b₀ (λ c. historyOf (N .m) (f c) (F c)) k e p b
+unfolding settingOf
+part-b-whole N qs F f b₀ b k e p s list =
+    part-b N (λ c. historyOf (N .m) (f c) (F c)) k e p (damaged-cluster (named N) F f (decode (N .n) (N .m) b₀) k e p s) list

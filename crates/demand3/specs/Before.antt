@@ -14,8 +14,9 @@ use Rattle.planner.specs.Setting.{Setting}
 use Rattle.planner.specs.Rules.{majority}
 use Rattle.demand3.specs.Supposed.{History, Agree, held, committed}
 
--- what was in flight on a replica at the power failure: which slots, and the payload that was being written to each
+-- what was in flight on a replica at the power failure
 pub record Flight : Type 0 where
+  -- which slots, and the payload that was being written to each
   pub inFlight : ℕ → Bool
   pub payload : ℕ → Bytes
 
@@ -28,11 +29,11 @@ pub data FlightSlot (p : Bytes) : Record → Entry → Type 0 where
   arrived : {e : ℕ} → FlightSlot p (good e) (intact e p)
   recordAlone : {e : ℕ} {x : Entry} → NotIntact e x → FlightSlot p (good e) x
 
--- before the damage: every used slot that was not in flight had verdict 1 (01's stored); no used slot after a blank record
+-- a replica's image before the damage. Behind the log, where a later record in flight may have arrived alone, anything may stand
 pub record Before (m : ℕ) (f : Flight) (i : Image) : Type 0 where
+  -- every slot of the log that was not in flight had verdict 1 (01's stored)
   pub stored : (k : ℕ) → k < logLength m i → f .inFlight k ≡ false → verdictAt m i k ≡ 1
   pub flying : (k : ℕ) → k < logLength m i → f .inFlight k ≡ true → FlightSlot (f .payload k) (i .records k) (i .entries k)
-  pub behind : (k : ℕ) → logLength m i ≤ k → k < m → i .records k ≡ blank
 
 -- what damage makes of a slot's record and entry. A record that stands without its entry counts as a damaged entry, so it is kept
 pub data SlotDamage : Record → Entry → Record → Entry → Type 0 where
@@ -50,6 +51,7 @@ pub data HeaderDamage : Header → Header → Type 0 where
   headerRefused : {h : Header} {b : Bytes} → HeaderDamage h (improper b)
 
 pub record Damage (m : ℕ) (i j : Image) : Type 0 where
+  -- image i became j
   pub header : HeaderDamage (i .header) (j .header)
   pub slots : (k : ℕ) → k < m → SlotDamage (i .records k) (i .entries k) (j .records k) (j .entries k)
 
@@ -66,8 +68,9 @@ historyOf m f i = record {
   inFlight = f .inFlight;
 }
 
--- cluster F before the damage, with f in flight, became G: what demand 3 supposes of payload p at slot k under epoch e
+-- what demand 3 supposes of payload p at slot k under epoch e
 pub record DamagedCluster (S : Setting) (F : Cluster) (f : ℕ → Flight) (G : Cluster) (k e : ℕ) (p : Bytes) : Type 0 where
+  -- cluster F before the damage, with f in flight, became G
   pub before : (c : ℕ) → c < S .n → Before (S .m) (f c) (F c)
   pub damage : (c : ℕ) → c < S .n → Damage (S .m) (F c) (G c)
   pub agree : Agree (S .n) (λ c. historyOf (S .m) (f c) (F c))

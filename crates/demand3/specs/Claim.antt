@@ -79,10 +79,12 @@ pub record PartA (N : Numbers) (b₀ b : Bytes) : Type 0 where
   pub bytes : (i j : ℕ) → isSpent (callResult N (run i) b) ≡ false → isSpent (callResult N (run j) b₀) ≡ false → callBytes N (run i) b ≡ callBytes N (run j) b₀
   pub ends : (j : ℕ) → isSpent (callResult N (run j) b) ≡ false → withoutCount (callResult N (run j) b) ≡ runEnd (callResult N (planning N) b₀)
 
--- the plan waits, and no byte has changed
+-- the plan waits, a step and every run say so too, and no byte has changed
 pub record Waits (N : Numbers) (b₀ b : Bytes) : Type 0 where
   pub slot : ℕ
   pub answer : callResult N (planning N) b₀ ≡ waiting slot
+  pub stepAnswer : callResult N step b ≡ waiting slot
+  pub runAnswer : (j : ℕ) → callResult N (run j) b ≡ waiting slot
   pub same : b ≡ b₀
 
 -- of payload p at slot k under epoch e
@@ -102,8 +104,9 @@ pub record PartB (N : Numbers) (b₀ : Bytes) (H : ℕ → History) (k e : ℕ) 
       → callResult N (planning N) b₀ ≡ ready (end (named N) (viewsIn (named N) b₀))
   pub waits : refusalIn N b₀ ≡ 0 → isFaulty (viewsIn (named N) b₀ (named N .leader) .condition k) ≡ true
       → ((c : ℕ) → c < N .n → have (named N) (viewsIn (named N) b₀) k c ≡ false) → Waits N b₀ b
-  -- the plan is ready: after every run that is not spent, and at once if no store is outstanding, it stands on every readable present replica
+  -- the plan is ready: after every run that is not spent it stands on every readable present replica; and at once, if a step answers that no
+  -- store is outstanding
   pub mended : (l j : ℕ) → callResult N (planning N) b₀ ≡ ready l → isSpent (callResult N (run j) b) ≡ false
       → (c : ℕ) → c < N .n → readable N b₀ c ≡ true → Stands (named N) (callBytes N (run j) b) c k e p
-  pub atRest : (l : ℕ) → callResult N (planning N) b₀ ≡ ready l → callResult N step b ≡ recovered 0
+  pub atRest : callResult N step b ≡ recovered 0
       → (c : ℕ) → c < N .n → readable N b₀ c ≡ true → Stands (named N) b c k e p

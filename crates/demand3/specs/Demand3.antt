@@ -22,3 +22,8 @@ pub record Demand3 : Type 0 where
   -- a cluster before the damage, damaged as document 01 says, gives such histories
   pub damaged : (S : Setting) (F : Cluster) (f : ℕ → Flight) (G : Cluster) (k e : ℕ) (p : Bytes)
       → DamagedCluster S F f G k e p → Supposed S G (λ c. historyOf (S .m) (f c) (F c)) k e p
+  -- so, in one sentence: cluster F stood as document 01 says, with f in flight, and damage left the bytes b₀; whatever list of calls is made
+  -- from there, part B holds of every payload that F had committed on a majority
+  pub demand : (N : Numbers) (qs : List Request) (F : Cluster) (f : ℕ → Flight) (b₀ b : Bytes) (k e : ℕ) (p : Bytes)
+      → DamagedCluster (named N) F f (decode (N .n) (N .m) b₀) k e p → CallList N qs b₀ b
+      → PartB N b₀ (λ c. historyOf (N .m) (f c) (F c)) k e p b

@@ -1,16 +1,22 @@
 -- The claim of demand 3 is about something: all that it supposes holds of a damaged cluster, and a list of calls among power failures is played from it.
+use Prim.Native.Nat.{ℕ, _<_}
 use mathlib.Core.Path.{_≡_}
+use mathlib.Core.Bool.{true, false}
 use mathlib.Core.List.{List, [], _∷_}
 use Rattle.image.specs.Cluster.{decode}
-use Rattle.planner.specs.Plan.{clusterRefusal}
+use Rattle.planner.specs.Plan.{viewsIn}
+use Rattle.planner.specs.Rules.{isFaulty, have}
 use Rattle.demand3.specs.Supposed.{Supposed}
-use Rattle.protocol.specs.Call.{Call, plan, step, run, named}
+use Rattle.demand3.specs.Before.{DamagedCluster}
+use Rattle.protocol.specs.Call.{Call, plan, step, run, named, refusalIn}
 use Rattle.demand3.specs.CallList.{Request, CallList}
-use Rattle.demand3.specs.Claim.{PartA, PartB}
+use Rattle.demand3.specs.Claim.{PartA, PartB, Waits}
 use Rattle.protocol.specs.CallResult.{callResult, recovered, spent}
-use Rattle.example.specs.Damaged.{five, payloadA, damagedCluster}
+use Rattle.example.specs.Undamaged.{payloadA, undamagedFive, undamagedThree}
+use Rattle.example.specs.Damaged.{five, damagedCluster}
+use Rattle.example.specs.Waiting.{three, waitingCluster}
 use Rattle.example.specs.Visited.{fetchedOne, lastStored, lastCluster}
-use Rattle.demand3.specs.Histories.{histories}
+use Rattle.demand3.specs.Histories.{flightsFive, historiesFive, flightsThree}
 
 -- a call with the numbers of the five
 abbrev pub asked : Call → Request
@@ -37,14 +43,25 @@ calls =
     ∷ asked (run 45)
     ∷ []
 
+-- five replicas: A was committed on four of them, C was in flight, and the damage left the cluster that the list is played from
 pub record Exhibit : Type 0 where
-  pub accepted : clusterRefusal 5 3 1 31 damagedCluster ≡ 0
-  pub supposed : Supposed (named five) (decode 5 3 damagedCluster) histories 0 2 payloadA
+  pub accepted : refusalIn five damagedCluster ≡ 0
+  pub damaged : DamagedCluster (named five) undamagedFive flightsFive (decode 5 3 damagedCluster) 0 2 payloadA
+  pub supposed : Supposed (named five) (decode 5 3 damagedCluster) historiesFive 0 2 payloadA
   pub played : CallList five calls damagedCluster lastCluster
   -- so what the claim concludes holds of it
   pub always : PartA five damagedCluster lastCluster
-  pub committed : PartB five damagedCluster histories 0 2 payloadA lastCluster
+  pub committed : PartB five damagedCluster historiesFive 0 2 payloadA lastCluster
   -- the run of two is spent, the last one finds nothing to do, and from the damaged cluster a run makes eight stores
   pub spentRun : callResult five (run 2) fetchedOne ≡ spent 2
   pub lastRun : callResult five (run 45) lastStored ≡ recovered 0
   pub wholeRun : callResult five (run 45) damagedCluster ≡ recovered 8
+
+-- three replicas: A was committed on all, and no copy is within reach; so it waits
+pub record WaitingExhibit : Type 0 where
+  pub accepted : refusalIn three waitingCluster ≡ 0
+  pub damaged : DamagedCluster (named three) undamagedThree flightsThree (decode 3 1 waitingCluster) 0 2 payloadA
+  pub faulty : isFaulty (viewsIn (named three) waitingCluster 0 .condition 0) ≡ true
+  pub noCopy : (c : ℕ) → c < 3 → have (named three) (viewsIn (named three) waitingCluster) 0 c ≡ false
+  pub played : CallList three (record { numbers = three; call = plan 1 3 } ∷ []) waitingCluster waitingCluster
+  pub waits : Waits three waitingCluster waitingCluster

@@ -24,11 +24,11 @@ pub data DamagedSlot (e : ℕ) (p : Bytes) : Record → Entry → Type 0 where
   recordBad : {b : Bytes} → DamagedSlot e p (bad b) (intact e p)
   entryBad : {x : Entry} → ((q : Bytes) → x ≡ intact e q → ⊥) → DamagedSlot e p (good e) x
 
--- slots past the history have blank records and any entry; the header is free
+-- the record of the first slot past the history is blank; entries there, later slots and the header are free
 pub record Damaged (m : ℕ) (h : History) (i : Image) : Type 0 where
   pub fits : h .length ≤ m
   pub used : (k : ℕ) → k < h .length → DamagedSlot (h .epoch k) (h .payload k) (i .records k) (i .entries k)
-  pub unused : (k : ℕ) → h .length ≤ k → k < m → i .records k ≡ blank
+  pub unused : h .length < m → i .records (h .length) ≡ blank
 
 -- two logs with the same epoch at one slot hold the same pairs there and at every lower slot
 pub record SameUpTo (k : ℕ) (h g : History) : Type 0 where

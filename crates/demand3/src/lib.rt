@@ -1,6 +1,6 @@
 // Demand 3: every list of plans, steps and runs with power failures anywhere.
 ghost use Rattle.demand3.specs.Demand3.{Demand3};
-ghost use Rattle.demand3.specs.Played.{Exhibit};
+ghost use Rattle.demand3.specs.Played.{Exhibit, WaitingExhibit};
 
 // The claim. The function does nothing; its contract is the theorem.
 pub fn demand_three()
@@ -10,4 +10,9 @@ pub fn demand_three()
 // The claim is about something: a damaged cluster meets what is supposed, and a list of calls is played from it.
 pub fn exhibit_claim()
     ensures { λ _. ⌜ Exhibit ⌝ }
+{}
+
+// So is what it says of waiting.
+pub fn waiting_exhibit_claim()
+    ensures { λ _. ⌜ WaitingExhibit ⌝ }
 {}

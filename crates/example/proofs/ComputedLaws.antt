@@ -9,7 +9,7 @@ use Rattle.record.specs.Layout.{sealed, headerBytes, recordBytes, blankRecord, 
 use Rattle.record.specs.Meaning.{isEpoch, readHeader, isGood, recordEpoch, readRecord, isIntact, entryEpoch, entryPayload, readEntry}
 use Rattle.image.specs.Refusal.{refuse, _else_}
 use Rattle.image.specs.Image.{imageSize, recordAt, entryAt, decodeImage}
-use Rattle.image.specs.View.{condition, epochOf, conditionAt, epochAt, isBlank, isProper, isLost, logLength, noGap, noneLost, rising, imageRefusal, viewOf, isSize, isReplica, isSlots}
+use Rattle.image.specs.View.{condition, epochOf, conditionAt, epochAt, isBlank, isProper, isLost, logLength, noGap, noneLost, rising, imageRefusal, callRefusal, readRefusal, viewOf, isSize, isReplica, isSlots}
 use Rattle.image.specs.Read.{isWhole}
 use Rattle.image.specs.Cluster.{imageAt, imagePart, decode}
 use Rattle.planner.specs.Setting.{settingOf, has, viewsOf}
@@ -20,12 +20,14 @@ use Rattle.protocol.specs.Recovery.{_or_, ifBelow, leaderStore, differs, firstD
 use Rattle.protocol.specs.StepBytes.{nextIn, afterStoreBytes, stepsBytes, storesBytes}
 use Rattle.protocol.specs.Call.{budgetOf, refusalOf}
 use Rattle.protocol.specs.CallResult.{stepResult, runResult, answered, acceptedResult, callResult}
-use Rattle.example.specs.Damaged.{five, payloadA, payloadB, payloadC, noise, scratch, first, second, third, fourth, fifth, damagedCluster}
+use Rattle.example.specs.Undamaged.{payloadA, payloadB, payloadC, noise}
+use Rattle.example.specs.Damaged.{five, scratch, first, second, third, fourth, fifth, damagedCluster}
+use Rattle.example.specs.Waiting.{three, scrawl, waitingCluster}
 use Rattle.example.specs.Visited.{blankedOne, tornOne, fetchedOne, twoMore, lastStored, lastCluster}
 use Rattle.example.specs.Computed.{Computed}
 
 pub computed : Computed
-unfolding five payloadA payloadB payloadC noise scratch first second third fourth fifth damagedCluster lowest count sum oneIf all part spliced same sumA sumB checksumOf digits column digitStep valueFrom valueOf sealed headerBytes recordBytes blankRecord padded entryBytes freshEntry isEpoch readHeader isGood recordEpoch readRecord isIntact entryEpoch entryPayload readEntry refuse _else_ imageSize recordAt entryAt decodeImage condition epochOf conditionAt epochAt isBlank isProper isLost logLength noGap noneLost rising imageRefusal viewOf isSize isReplica isSlots isWhole imageAt imagePart decode settingOf has viewsOf viewsIn shapeRefusal clusterRefusal lentRefusal planRefusal refusalOf budgetOf majority mayTruncate isFaulty isRecordLost isUsed isTruncate isFetch isWait answers agrees have dontHave donor rule end firstWaiting answer sameEntry _or_ ifBelow leaderStore differs firstDiffering followerStore isSome firstOf ifReady unlike due followersStore next after nextIn afterStoreBytes stepsBytes storesBytes stepResult runResult answered acceptedResult callResult blankedOne tornOne fetchedOne twoMore lastStored lastCluster
+unfolding three scrawl waitingCluster callRefusal readRefusal five payloadA payloadB payloadC noise scratch first second third fourth fifth damagedCluster lowest count sum oneIf all part spliced same sumA sumB checksumOf digits column digitStep valueFrom valueOf sealed headerBytes recordBytes blankRecord padded entryBytes freshEntry isEpoch readHeader isGood recordEpoch readRecord isIntact entryEpoch entryPayload readEntry refuse _else_ imageSize recordAt entryAt decodeImage condition epochOf conditionAt epochAt isBlank isProper isLost logLength noGap noneLost rising imageRefusal viewOf isSize isReplica isSlots isWhole imageAt imagePart decode settingOf has viewsOf viewsIn shapeRefusal clusterRefusal lentRefusal planRefusal refusalOf budgetOf majority mayTruncate isFaulty isRecordLost isUsed isTruncate isFetch isWait answers agrees have dontHave donor rule end firstWaiting answer sameEntry _or_ ifBelow leaderStore differs firstDiffering followerStore isSome firstOf ifReady unlike due followersStore next after nextIn afterStoreBytes stepsBytes storesBytes stepResult runResult answered acceptedResult callResult blankedOne tornOne fetchedOne twoMore lastStored lastCluster
 computed = record {
   next-first = refl;
   next-torn = refl;
@@ -45,30 +47,40 @@ computed = record {
   go-two = refl;
   go-last = refl;
   noise-broken = refl;
-  record-0-0 = refl;
-  record-0-1 = refl;
-  record-0-2 = refl;
-  record-1-0 = refl;
-  record-1-1 = refl;
-  record-1-2 = refl;
-  record-2-0 = refl;
-  record-2-1 = refl;
-  record-2-2 = refl;
-  record-3-0 = refl;
-  record-3-1 = refl;
-  record-3-2 = refl;
-  record-4-0 = refl;
-  record-4-1 = refl;
-  record-4-2 = refl;
-  entry-0-0 = refl;
-  entry-0-1 = refl;
-  entry-0-2 = refl;
-  entry-1-0 = refl;
-  entry-1-1 = refl;
-  entry-3-0 = refl;
-  entry-3-1 = refl;
-  entry-4-0 = refl;
+  slot-0-0 = record { rec = refl; ent = refl };
+  slot-0-1 = record { rec = refl; ent = refl };
+  slot-0-2 = record { rec = refl; ent = refl };
+  slot-1-0 = record { rec = refl; ent = refl };
+  slot-1-1 = record { rec = refl; ent = refl };
+  slot-1-2 = record { rec = refl; ent = refl };
+  slot-2-0 = record { rec = refl; ent = refl };
+  slot-2-1 = record { rec = refl; ent = refl };
+  slot-2-2 = record { rec = refl; ent = refl };
+  slot-3-0 = record { rec = refl; ent = refl };
+  slot-3-1 = record { rec = refl; ent = refl };
+  slot-3-2 = record { rec = refl; ent = refl };
+  slot-4-0 = record { rec = refl; ent = refl };
+  slot-4-1 = record { rec = refl; ent = refl };
+  slot-4-2 = record { rec = refl; ent = refl };
+  header-0 = refl;
+  header-1 = refl;
+  header-2 = refl;
+  header-3 = refl;
+  header-4 = refl;
+  gap = refl;
   spent-run = refl;
   last-run = refl;
   whole-run = refl;
+  go-waiting = refl;
+  planned-waiting = refl;
+  wait-0 = record { rec = refl; ent = refl };
+  wait-1 = record { rec = refl; ent = refl };
+  wait-2 = record { rec = refl; ent = refl };
+  wait-header-0 = refl;
+  wait-header-1 = refl;
+  wait-header-2 = refl;
+  leader-faulty = refl;
+  no-copy-0 = refl;
+  no-copy-1 = refl;
+  no-copy-2 = refl;
 }

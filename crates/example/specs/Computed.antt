@@ -1,16 +1,28 @@
 -- What is computed of the clusters: the stores that are due on the way, the refusals, and what the damaged slots mean.
+use Prim.Native.Nat.{ℕ}
 use mathlib.Core.Path.{_≡_}
+use mathlib.Core.Bool.{true, false}
 use mathlib.Core.Option.{some}
-use Rattle.record.specs.Meaning.{readEntry, good, blank, bad, intact, broken}
-use Rattle.image.specs.Cluster.{decode}
-use Rattle.planner.specs.Plan.{clusterRefusal}
+use Rattle.slices.specs.Parts.{Bytes}
+use Rattle.record.specs.Layout.{freshEntry}
+use Rattle.record.specs.Meaning.{proper, improper, readEntry, Record, good, blank, bad, Entry, intact, broken}
+use Rattle.image.specs.View.{readRefusal}
+use Rattle.image.specs.Cluster.{imagePart, decode}
+use Rattle.planner.specs.Plan.{viewsIn, clusterRefusal}
+use Rattle.planner.specs.Rules.{isFaulty, have}
 use Rattle.protocol.specs.Store.{storeEntry, storeRecord, storeBlank}
-use Rattle.protocol.specs.Recovery.{_or_}
 use Rattle.protocol.specs.StepBytes.{nextIn, stepsBytes}
-use Rattle.protocol.specs.Call.{plan, step, run, named, refusalOf}
+use Rattle.protocol.specs.Call.{plan, step, run, Numbers, named, refusalOf}
 use Rattle.protocol.specs.CallResult.{recovered, spent, callResult}
-use Rattle.example.specs.Damaged.{five, payloadA, payloadB, payloadC, noise, scratch, damagedCluster}
+use Rattle.example.specs.Undamaged.{payloadA, payloadB, payloadC, noise}
+use Rattle.example.specs.Damaged.{five, scratch, damagedCluster}
+use Rattle.example.specs.Waiting.{three, scrawl, waitingCluster}
 use Rattle.example.specs.Visited.{blankedOne, tornOne, fetchedOne, twoMore, lastStored}
+
+-- record and entry of slot k of replica c
+pub record Means (N : Numbers) (b : Bytes) (c k : ℕ) (r : Record) (x : Entry) : Type 0 where
+  pub rec : decode (N .n) (N .m) b c .records k ≡ r
+  pub ent : decode (N .n) (N .m) b c .entries k ≡ x
 
 pub record Computed : Type 0 where
   pub next-first : nextIn (named five) damagedCluster ≡ some (storeBlank 0 2)
@@ -31,29 +43,41 @@ pub record Computed : Type 0 where
   pub go-two : clusterRefusal 5 3 1 31 twoMore ≡ 0
   pub go-last : clusterRefusal 5 3 1 31 lastStored ≡ 0
   pub noise-broken : readEntry 1 noise ≡ broken noise
-  pub record-0-0 : decode 5 3 damagedCluster 0 .records 0 ≡ good 2
-  pub record-0-1 : decode 5 3 damagedCluster 0 .records 1 ≡ bad scratch
-  pub record-0-2 : decode 5 3 damagedCluster 0 .records 2 ≡ good 2
-  pub record-1-0 : decode 5 3 damagedCluster 1 .records 0 ≡ good 2
-  pub record-1-1 : decode 5 3 damagedCluster 1 .records 1 ≡ good 2
-  pub record-1-2 : decode 5 3 damagedCluster 1 .records 2 ≡ blank
-  pub record-2-0 : decode 5 3 damagedCluster 2 .records 0 ≡ blank
-  pub record-2-1 : decode 5 3 damagedCluster 2 .records 1 ≡ blank
-  pub record-2-2 : decode 5 3 damagedCluster 2 .records 2 ≡ blank
-  pub record-3-0 : decode 5 3 damagedCluster 3 .records 0 ≡ good 2
-  pub record-3-1 : decode 5 3 damagedCluster 3 .records 1 ≡ good 2
-  pub record-3-2 : decode 5 3 damagedCluster 3 .records 2 ≡ blank
-  pub record-4-0 : decode 5 3 damagedCluster 4 .records 0 ≡ good 2
-  pub record-4-1 : decode 5 3 damagedCluster 4 .records 1 ≡ blank
-  pub record-4-2 : decode 5 3 damagedCluster 4 .records 2 ≡ blank
-  pub entry-0-0 : decode 5 3 damagedCluster 0 .entries 0 ≡ intact 1 payloadC
-  pub entry-0-1 : decode 5 3 damagedCluster 0 .entries 1 ≡ intact 2 payloadB
-  pub entry-0-2 : decode 5 3 damagedCluster 0 .entries 2 ≡ broken noise
-  pub entry-1-0 : decode 5 3 damagedCluster 1 .entries 0 ≡ intact 2 payloadA
-  pub entry-1-1 : decode 5 3 damagedCluster 1 .entries 1 ≡ intact 2 payloadB
-  pub entry-3-0 : decode 5 3 damagedCluster 3 .entries 0 ≡ intact 2 payloadA
-  pub entry-3-1 : decode 5 3 damagedCluster 3 .entries 1 ≡ broken noise
-  pub entry-4-0 : decode 5 3 damagedCluster 4 .entries 0 ≡ intact 2 payloadA
+  -- what the slots mean
+  pub slot-0-0 : Means five damagedCluster 0 0 (good 2) (intact 1 payloadC)
+  pub slot-0-1 : Means five damagedCluster 0 1 (bad scratch) (intact 2 payloadB)
+  pub slot-0-2 : Means five damagedCluster 0 2 (good 2) (broken noise)
+  pub slot-1-0 : Means five damagedCluster 1 0 (good 2) (intact 2 payloadA)
+  pub slot-1-1 : Means five damagedCluster 1 1 (good 2) (intact 2 payloadB)
+  pub slot-1-2 : Means five damagedCluster 1 2 blank (broken freshEntry)
+  pub slot-2-0 : Means five damagedCluster 2 0 blank (broken freshEntry)
+  pub slot-2-1 : Means five damagedCluster 2 1 blank (broken freshEntry)
+  pub slot-2-2 : Means five damagedCluster 2 2 blank (broken freshEntry)
+  pub slot-3-0 : Means five damagedCluster 3 0 (good 2) (intact 2 payloadA)
+  pub slot-3-1 : Means five damagedCluster 3 1 (good 2) (broken noise)
+  pub slot-3-2 : Means five damagedCluster 3 2 blank (broken freshEntry)
+  pub slot-4-0 : Means five damagedCluster 4 0 (good 2) (intact 2 payloadA)
+  pub slot-4-1 : Means five damagedCluster 4 1 blank (broken freshEntry)
+  pub slot-4-2 : Means five damagedCluster 4 2 (good 2) (broken freshEntry)
+  pub header-0 : decode 5 3 damagedCluster 0 .header ≡ proper
+  pub header-1 : decode 5 3 damagedCluster 1 .header ≡ proper
+  pub header-2 : decode 5 3 damagedCluster 2 .header ≡ proper
+  pub header-3 : decode 5 3 damagedCluster 3 .header ≡ proper
+  pub header-4 : decode 5 3 damagedCluster 4 .header ≡ proper
+  pub gap : readRefusal 5 5 3 (imagePart 3 damagedCluster 4) ≡ 5
   pub spent-run : callResult five (run 2) fetchedOne ≡ spent 2
   pub last-run : callResult five (run 45) lastStored ≡ recovered 0
   pub whole-run : callResult five (run 45) damagedCluster ≡ recovered 8
+  -- the cluster that waits
+  pub go-waiting : clusterRefusal 3 1 1 7 waitingCluster ≡ 0
+  pub planned-waiting : refusalOf three (plan 1 3) waitingCluster ≡ 0
+  pub wait-0 : Means three waitingCluster 0 0 (good 2) (broken noise)
+  pub wait-1 : Means three waitingCluster 1 0 (good 2) (broken noise)
+  pub wait-2 : Means three waitingCluster 2 0 (good 2) (intact 2 payloadA)
+  pub wait-header-0 : decode 3 1 waitingCluster 0 .header ≡ proper
+  pub wait-header-1 : decode 3 1 waitingCluster 1 .header ≡ proper
+  pub wait-header-2 : decode 3 1 waitingCluster 2 .header ≡ improper scrawl
+  pub leader-faulty : isFaulty (viewsIn (named three) waitingCluster 0 .condition 0) ≡ true
+  pub no-copy-0 : have (named three) (viewsIn (named three) waitingCluster) 0 0 ≡ false
+  pub no-copy-1 : have (named three) (viewsIn (named three) waitingCluster) 0 1 ≡ false
+  pub no-copy-2 : have (named three) (viewsIn (named three) waitingCluster) 0 2 ≡ false

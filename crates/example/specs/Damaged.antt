@@ -1,27 +1,16 @@
--- A damaged cluster of five replicas with three slots, in the writer's bytes. Epoch 2 wrote payloads A and B, which a majority holds, and C was in flight.
-use mathlib.Core.List.{[], _∷_, _++_}
+-- The damaged cluster of five replicas with three slots, in the writer's bytes (Undamaged.antt has what it was before).
+use mathlib.Core.List.{_++_}
 use lib.ListN.{replicate}
 use Rattle.slices.specs.Parts.{Bytes}
 use Rattle.record.specs.Layout.{headerBytes, recordBytes, blankRecord, entryBytes, freshEntry}
 use Rattle.protocol.specs.Call.{Numbers}
+use Rattle.example.specs.Undamaged.{payloadA, payloadB, payloadC, noise}
 
 -- leader 1, all five present
 unfoldable pub five : Numbers
 five = record { n = 5; m = 3; leader = 1; present = 31 }
 
-unfoldable pub payloadA : Bytes
-payloadA = 65 ∷ []
-
-unfoldable pub payloadB : Bytes
-payloadB = 66 ∷ []
-
-unfoldable pub payloadC : Bytes
-payloadC = 67 ∷ []
-
--- 240 bytes that are no intact entry, and 34 that are neither a good nor a blank record
-unfoldable pub noise : Bytes
-noise = replicate 240 9
-
+-- 34 bytes that are neither a good nor a blank record
 unfoldable pub scratch : Bytes
 scratch = replicate 34 9
 
@@ -47,9 +36,11 @@ fourth =
     headerBytes 4 5 3
     ++ (recordBytes 2 1 ++ (recordBytes 2 2 ++ (blankRecord ++ (entryBytes 2 1 payloadA ++ (noise ++ freshEntry)))))
 
--- A whole, the header damaged
+-- A whole; of B and C in flight only C's record is there: refused by 5
 unfoldable pub fifth : Bytes
-fifth = replicate 28 9 ++ (recordBytes 2 1 ++ (blankRecord ++ (blankRecord ++ (entryBytes 2 1 payloadA ++ (freshEntry ++ freshEntry)))))
+fifth =
+    headerBytes 5 5 3
+    ++ (recordBytes 2 1 ++ (blankRecord ++ (recordBytes 2 3 ++ (entryBytes 2 1 payloadA ++ (freshEntry ++ freshEntry)))))
 
 unfoldable pub damagedCluster : Bytes
 damagedCluster = first ++ (second ++ (third ++ (fourth ++ fifth)))

@@ -6,7 +6,8 @@ use Rattle.image.specs.Cluster.{imageAt}
 use Rattle.protocol.specs.Store.{storeEntry, storeBlank}
 use Rattle.protocol.specs.StepBytes.{stepsBytes, afterStoreBytes}
 use Rattle.protocol.specs.Call.{named}
-use Rattle.example.specs.Damaged.{five, noise, damagedCluster}
+use Rattle.example.specs.Damaged.{five, damagedCluster}
+use Rattle.example.specs.Undamaged.{noise}
 
 -- a record blanked, noise in the leader's first entry, that entry fetched, two stores more, then all but the last
 -- and the last

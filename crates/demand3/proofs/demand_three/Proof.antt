@@ -1,7 +1,7 @@
 use Rattle.demand3.proofs.UncutLaws.{uncut}
 use Rattle.demand3.proofs.RunLaws.{runs}
 use Rattle.demand3.proofs.PartA.{part-a}
-use Rattle.demand3.proofs.PartB.{part-b}
+use Rattle.demand3.proofs.PartB.{part-b, part-b-whole}
 use Rattle.demand3.proofs.BeforeLaws.{damaged-cluster}
 use Rattle.demand3.proofs.demand_three.Statement.{statement}
 use Rattle.demand3.proofs.demand_three.Tie as tie
@@ -13,6 +13,7 @@ returns c = record {
   always = λ N qs b₀ b list. part-a N list;
   committed = λ N qs b₀ b H k e p s list. part-b N H k e p s list;
   damaged = damaged-cluster;
+  demand = part-b-whole;
 }
 
 pub demand-three-spec : {M : Type 1} → statement M

@@ -1,10 +1,11 @@
 -- The exhibit is computed.
-use Rattle.example.specs.Damaged.{five, payloadA}
-use Rattle.demand3.specs.Histories.{histories}
+use Rattle.example.specs.Undamaged.{payloadA}
+use Rattle.example.specs.Damaged.{five}
+use Rattle.demand3.specs.Histories.{historiesFive}
 use Rattle.demand3.proofs.PartA.{part-a}
 use Rattle.demand3.proofs.PartB.{part-b}
 use Rattle.example.proofs.ComputedLaws.{computed}
-use Rattle.demand3.proofs.ExampleSlots.{supposed}
+use Rattle.demand3.proofs.ExampleDamage.{damaged-five, supposed-five}
 use Rattle.demand3.proofs.ExampleCalls.{played}
 use Rattle.demand3.proofs.exhibit_claim.Statement.{statement}
 use Rattle.demand3.proofs.exhibit_claim.Tie as tie
@@ -13,10 +14,11 @@ returns : tie.Need-returns
 unfolding five
 returns c = record {
   accepted = computed .go-first;
-  supposed = supposed;
+  damaged = damaged-five;
+  supposed = supposed-five;
   played = played;
   always = part-a five played;
-  committed = part-b five histories 0 2 payloadA supposed played;
+  committed = part-b five historiesFive 0 2 payloadA supposed-five played;
   spentRun = computed .spent-run;
   lastRun = computed .last-run;
   wholeRun = computed .whole-run;

@@ -1,0 +1,273 @@
+-- The five and the three stood as demand 3 supposes before their damage, and the damage is of the kind that it supposes.
+use Prim.Native.Nat.{ℕ, zero, suc, _<_}
+use mathlib.Core.Path.{_≡_, refl, sym, _∙_}
+use mathlib.Core.Bool.{Bool, true, false, cond, true≢false, _||_}
+use native.Mathlib.Omega.{arith}
+use lib.Dec.{eqb}
+use Rattle.search.specs.Search.{lowest, count, sum, oneIf}
+use Rattle.slices.specs.Parts.{Bytes}
+use Rattle.slices.specs.Same.{same}
+use Rattle.record.specs.Meaning.{intact, broken}
+use Rattle.image.specs.Image.{Image}
+use Rattle.image.specs.Cluster.{decode}
+use Rattle.image.specs.View.{condition, conditionAt, epochOf, epochAt, isBlank, logLength}
+use Rattle.image.specs.Verdict.{verdictOf, verdictAt}
+use Rattle.planner.specs.Setting.{settingOf}
+use Rattle.planner.specs.Rules.{majority}
+use Rattle.demand3.specs.Supposed.{History, Agree, held, committed, Supposed}
+use Rattle.demand3.specs.Before.{FlightSlot, arrived, recordAlone, Before, SlotDamage, spared, recordDamaged, entryDamaged, unusedDamaged, headerSpared, headerRefused, Damage, payloadIn, historyOf, DamagedCluster}
+use Rattle.protocol.specs.Call.{named}
+use Rattle.example.specs.Undamaged.{payloadA, payloadB, payloadC, noise, imageWith, leaderImage, imageAB, emptyImage, gapImage, imageA, undamagedFive, undamagedThree}
+use Rattle.example.specs.Damaged.{five, damagedCluster}
+use Rattle.example.specs.Waiting.{three, waitingCluster}
+use Rattle.demand3.specs.Histories.{inFlightFive, writtenTo, flightsFive, historiesFive, flightsThree, historiesThree}
+use Rattle.demand3.proofs.BeforeLaws.{damaged-cluster}
+use Rattle.example.proofs.ComputedLaws.{computed}
+
+-- a stale entry, and noise
+stale : (q : Bytes) → intact 1 payloadC ≡ intact 2 q → ⊥
+stale q e = let z : _≡_ {A = ℕ} 1 2 = cc in omega arith
+
+noisy : (q : Bytes) → broken noise ≡ intact 2 q → ⊥
+noisy q e = let z : _≡_ {A = ℕ} 0 1 = cc in omega arith
+
+-- ---- before the damage
+
+stored-leader : (k : ℕ) → k < 3 → eqb k 2 ≡ false → verdictAt 3 leaderImage k ≡ 1
+unfolding leaderImage imageWith verdictAt verdictOf conditionAt condition
+stored-leader zero h e = refl
+stored-leader (suc zero) h e = refl
+stored-leader (suc (suc zero)) h e = absurd (true≢false e)
+stored-leader (suc (suc (suc k))) h e = absurd (omega arith)
+
+-- in flight or not, what arrived is what was written
+flying-AB : (k : ℕ) → k < 2 → FlightSlot (writtenTo k) (imageAB .records k) (imageAB .entries k)
+unfolding imageAB imageWith writtenTo
+flying-AB zero h = arrived
+flying-AB (suc zero) h = arrived
+flying-AB (suc (suc k)) h = absurd (omega arith)
+
+flying-leader : (k : ℕ) → k < 3 → eqb k 2 ≡ true → FlightSlot (writtenTo k) (leaderImage .records k) (leaderImage .entries k)
+unfolding leaderImage imageWith writtenTo
+flying-leader zero h e = absurd (true≢false (sym e))
+flying-leader (suc zero) h e = absurd (true≢false (sym e))
+flying-leader (suc (suc zero)) h e = recordAlone noisy
+flying-leader (suc (suc (suc k))) h e = absurd (omega arith)
+
+stored-AB : (k : ℕ) → k < 2 → verdictAt 3 imageAB k ≡ 1
+unfolding imageAB imageWith verdictAt verdictOf conditionAt condition
+stored-AB zero h = refl
+stored-AB (suc zero) h = refl
+stored-AB (suc (suc k)) h = absurd (omega arith)
+
+stored-gap : (k : ℕ) → k < 1 → verdictAt 3 gapImage k ≡ 1
+unfolding gapImage imageWith verdictAt verdictOf conditionAt condition
+stored-gap zero h = refl
+stored-gap (suc k) h = absurd (omega arith)
+
+flying-gap : (k : ℕ) → k < 1 → (eqb k 1 || eqb k 2) ≡ true → ⊥
+flying-gap zero h e = true≢false (sym e)
+flying-gap (suc k) h e = absurd (omega arith)
+
+before-five : (c : ℕ) → c < 5 → Before 3 (flightsFive c) (undamagedFive c)
+unfolding flightsFive inFlightFive undamagedFive logLength lowest isBlank leaderImage imageAB emptyImage gapImage imageWith
+before-five zero h = record { stored = stored-leader; flying = flying-leader }
+before-five (suc zero) h = record { stored = λ k l e. stored-AB k l; flying = λ k l e. flying-AB k l }
+before-five (suc (suc zero)) h = record { stored = λ k l e. absurd (omega arith); flying = λ k l e. absurd (omega arith) }
+before-five (suc (suc (suc zero))) h = record { stored = λ k l e. stored-AB k l; flying = λ k l e. flying-AB k l }
+before-five (suc (suc (suc (suc zero)))) h = record { stored = λ k l e. stored-gap k l; flying = λ k l e. absurd (flying-gap k l e) }
+before-five (suc (suc (suc (suc (suc c))))) h = absurd (omega arith)
+
+stored-A : (k : ℕ) → k < 1 → verdictAt 1 imageA k ≡ 1
+unfolding imageA imageWith verdictAt verdictOf conditionAt condition
+stored-A zero l = refl
+stored-A (suc k) l = absurd (omega arith)
+
+before-three : (c : ℕ) → c < 3 → Before 1 (flightsThree c) (undamagedThree c)
+unfolding flightsThree undamagedThree logLength lowest isBlank imageA imageWith
+before-three c h = record { stored = λ k l e. stored-A k l; flying = λ k l e. absurd (true≢false (sym e)) }
+
+-- ---- the damage
+
+abbrev DamagedFive : ℕ → ℕ → Type 0
+DamagedFive c k =
+    SlotDamage (undamagedFive c .records k) (undamagedFive c .entries k) (decode 5 3 damagedCluster c .records k) (decode 5 3 damagedCluster c .entries k)
+
+slots-first : (k : ℕ) → k < 3 → DamagedFive 0 k
+unfolding undamagedFive leaderImage imageWith five
+slots-first zero h = rw (computed .slot-0-0 .rec, computed .slot-0-0 .ent) (entryDamaged stale)
+slots-first (suc zero) h = rw (computed .slot-0-1 .rec, computed .slot-0-1 .ent) recordDamaged
+slots-first (suc (suc zero)) h = rw (computed .slot-0-2 .rec, computed .slot-0-2 .ent) spared
+slots-first (suc (suc (suc k))) h = absurd (omega arith)
+
+slots-second : (k : ℕ) → k < 3 → DamagedFive 1 k
+unfolding undamagedFive imageAB imageWith five
+slots-second zero h = rw (computed .slot-1-0 .rec, computed .slot-1-0 .ent) spared
+slots-second (suc zero) h = rw (computed .slot-1-1 .rec, computed .slot-1-1 .ent) spared
+slots-second (suc (suc zero)) h = rw (computed .slot-1-2 .rec, computed .slot-1-2 .ent) spared
+slots-second (suc (suc (suc k))) h = absurd (omega arith)
+
+slots-third : (k : ℕ) → k < 3 → DamagedFive 2 k
+unfolding undamagedFive emptyImage imageWith five
+slots-third zero h = rw (computed .slot-2-0 .rec, computed .slot-2-0 .ent) spared
+slots-third (suc zero) h = rw (computed .slot-2-1 .rec, computed .slot-2-1 .ent) spared
+slots-third (suc (suc zero)) h = rw (computed .slot-2-2 .rec, computed .slot-2-2 .ent) spared
+slots-third (suc (suc (suc k))) h = absurd (omega arith)
+
+slots-fourth : (k : ℕ) → k < 3 → DamagedFive 3 k
+unfolding undamagedFive imageAB imageWith five
+slots-fourth zero h = rw (computed .slot-3-0 .rec, computed .slot-3-0 .ent) spared
+slots-fourth (suc zero) h = rw (computed .slot-3-1 .rec, computed .slot-3-1 .ent) (entryDamaged noisy)
+slots-fourth (suc (suc zero)) h = rw (computed .slot-3-2 .rec, computed .slot-3-2 .ent) unusedDamaged
+slots-fourth (suc (suc (suc k))) h = absurd (omega arith)
+
+slots-fifth : (k : ℕ) → k < 3 → DamagedFive 4 k
+unfolding undamagedFive gapImage imageWith five
+slots-fifth zero h = rw (computed .slot-4-0 .rec, computed .slot-4-0 .ent) spared
+slots-fifth (suc zero) h = rw (computed .slot-4-1 .rec, computed .slot-4-1 .ent) spared
+slots-fifth (suc (suc zero)) h = rw (computed .slot-4-2 .rec, computed .slot-4-2 .ent) spared
+slots-fifth (suc (suc (suc k))) h = absurd (omega arith)
+
+damage-five : (c : ℕ) → c < 5 → Damage 3 (undamagedFive c) (decode 5 3 damagedCluster c)
+unfolding undamagedFive leaderImage imageAB emptyImage gapImage imageWith
+damage-five zero h = record { header = rw (computed .header-0) headerSpared; slots = slots-first }
+damage-five (suc zero) h = record { header = rw (computed .header-1) headerSpared; slots = slots-second }
+damage-five (suc (suc zero)) h = record { header = rw (computed .header-2) headerSpared; slots = slots-third }
+damage-five (suc (suc (suc zero))) h = record { header = rw (computed .header-3) headerSpared; slots = slots-fourth }
+damage-five (suc (suc (suc (suc zero)))) h = record { header = rw (computed .header-4) headerSpared; slots = slots-fifth }
+damage-five (suc (suc (suc (suc (suc c))))) h = absurd (omega arith)
+
+one-slot : (i j : Image) → SlotDamage (i .records 0) (i .entries 0) (j .records 0) (j .entries 0)
+    → (k : ℕ) → k < 1 → SlotDamage (i .records k) (i .entries k) (j .records k) (j .entries k)
+one-slot i j d zero h = d
+one-slot i j d (suc k) h = absurd (omega arith)
+
+damage-three : (c : ℕ) → c < 3 → Damage 1 (undamagedThree c) (decode 3 1 waitingCluster c)
+unfolding undamagedThree imageA imageWith three
+damage-three zero h = record {
+  header = rw (computed .wait-header-0) headerSpared;
+  slots = one-slot (undamagedThree 0) (decode 3 1 waitingCluster 0) (rw (computed .wait-0 .rec, computed .wait-0 .ent) (entryDamaged noisy));
+}
+damage-three (suc zero) h = record {
+  header = rw (computed .wait-header-1) headerSpared;
+  slots = one-slot (undamagedThree 1) (decode 3 1 waitingCluster 1) (rw (computed .wait-1 .rec, computed .wait-1 .ent) (entryDamaged noisy));
+}
+damage-three (suc (suc zero)) h = record {
+  header = rw (computed .wait-header-2) headerRefused;
+  slots = one-slot (undamagedThree 2) (decode 3 1 waitingCluster 2) (rw (computed .wait-2 .rec, computed .wait-2 .ent) spared);
+}
+damage-three (suc (suc (suc c))) h = absurd (omega arith)
+
+-- ---- the logs agree
+
+-- every slot of every log has epoch e and the same payload as the others there
+pub record Alike (e : ℕ) (paid : ℕ → Bytes) (h : History) : Type 0 where
+  pub epochs : (k : ℕ) → k < h .length → h .epoch k ≡ e
+  pub payloads : (k : ℕ) → k < h .length → h .payload k ≡ writtenTo k
+
+agreed : (n e : ℕ) (paid : ℕ → Bytes) (H : ℕ → History) → ((c : ℕ) → c < n → Alike e paid (H c)) → Agree n H
+unfolding Agree
+agreed n e paid H alike c d k cn dn h g x = record {
+  epochs = λ j b. alike c cn .epochs j (omega arith) ∙ sym (alike d dn .epochs j (omega arith));
+  payloads = λ j b. alike c cn .payloads j (omega arith) ∙ sym (alike d dn .payloads j (omega arith));
+}
+
+alike-leader : Alike 2 writtenTo (historiesFive 0)
+unfolding historiesFive historyOf flightsFive inFlightFive undamagedFive leaderImage imageWith epochAt epochOf logLength lowest isBlank payloadIn writtenTo
+alike-leader = record { epochs = epochs; payloads = payloads }
+  where
+    epochs : (k : ℕ) → k < 3 → historiesFive 0 .epoch k ≡ 2
+    epochs zero h = refl
+    epochs (suc zero) h = refl
+    epochs (suc (suc zero)) h = refl
+    epochs (suc (suc (suc k))) h = absurd (omega arith)
+
+    payloads : (k : ℕ) → k < 3 → historiesFive 0 .payload k ≡ writtenTo k
+    payloads zero h = refl
+    payloads (suc zero) h = refl
+    payloads (suc (suc zero)) h = refl
+    payloads (suc (suc (suc k))) h = absurd (omega arith)
+
+alike-AB : (t : ℕ → Bool) → Alike 2 writtenTo (historyOf 3 (record { inFlight = t; payload = writtenTo }) imageAB)
+unfolding historyOf imageAB imageWith epochAt epochOf logLength lowest isBlank payloadIn writtenTo
+alike-AB t = record { epochs = epochs; payloads = payloads }
+  where
+    H : History
+    H = historyOf 3 (record { inFlight = t; payload = writtenTo }) imageAB
+
+    either : (u : Bool) (p : Bytes) → cond u p p ≡ p
+    either true p = refl
+    either false p = refl
+
+    epochs : (k : ℕ) → k < 2 → H .epoch k ≡ 2
+    epochs zero h = refl
+    epochs (suc zero) h = refl
+    epochs (suc (suc k)) h = absurd (omega arith)
+
+    payloads : (k : ℕ) → k < 2 → H .payload k ≡ writtenTo k
+    payloads zero h = either (t 0) payloadA
+    payloads (suc zero) h = either (t 1) payloadB
+    payloads (suc (suc k)) h = absurd (omega arith)
+
+alike-empty : Alike 2 writtenTo (historiesFive 2)
+unfolding historiesFive historyOf undamagedFive emptyImage imageWith logLength lowest isBlank
+alike-empty = record { epochs = λ k h. absurd (omega arith); payloads = λ k h. absurd (omega arith) }
+
+alike-gap : Alike 2 writtenTo (historiesFive 4)
+unfolding historiesFive historyOf flightsFive inFlightFive undamagedFive gapImage imageWith epochAt epochOf logLength lowest isBlank payloadIn writtenTo
+alike-gap = record { epochs = epochs; payloads = payloads }
+  where
+    epochs : (k : ℕ) → k < 1 → historiesFive 4 .epoch k ≡ 2
+    epochs zero h = refl
+    epochs (suc k) h = absurd (omega arith)
+
+    payloads : (k : ℕ) → k < 1 → historiesFive 4 .payload k ≡ writtenTo k
+    payloads zero h = refl
+    payloads (suc k) h = absurd (omega arith)
+
+alike-A : (c : ℕ) → Alike 2 writtenTo (historiesThree c)
+unfolding historiesThree historyOf flightsThree undamagedThree imageA imageWith epochAt epochOf logLength lowest isBlank payloadIn writtenTo
+alike-A c = record { epochs = epochs; payloads = payloads }
+  where
+    epochs : (k : ℕ) → k < 1 → historiesThree c .epoch k ≡ 2
+    epochs zero h = refl
+    epochs (suc k) h = absurd (omega arith)
+
+    payloads : (k : ℕ) → k < 1 → historiesThree c .payload k ≡ writtenTo k
+    payloads zero h = refl
+    payloads (suc k) h = absurd (omega arith)
+
+alike-five : (c : ℕ) → c < 5 → Alike 2 writtenTo (historiesFive c)
+unfolding undamagedFive flightsFive historiesFive
+alike-five zero h = alike-leader
+alike-five (suc zero) h = alike-AB (inFlightFive 1)
+alike-five (suc (suc zero)) h = alike-empty
+alike-five (suc (suc (suc zero))) h = alike-AB (inFlightFive 3)
+alike-five (suc (suc (suc (suc zero)))) h = alike-gap
+alike-five (suc (suc (suc (suc (suc c))))) h = absurd (omega arith)
+
+-- ---- all of it
+
+pub damaged-five : DamagedCluster (named five) undamagedFive flightsFive (decode 5 3 damagedCluster) 0 2 payloadA
+unfolding five settingOf majority historiesFive count sum oneIf committed held historyOf undamagedFive leaderImage imageAB emptyImage gapImage imageWith flightsFive inFlightFive epochAt epochOf logLength lowest isBlank payloadIn payloadA same
+damaged-five = record {
+  before = before-five;
+  damage = damage-five;
+  agree = agreed 5 2 writtenTo historiesFive alike-five;
+  onMajority = omega arith;
+  leaderHeld = refl;
+}
+
+pub supposed-five : Supposed (named five) (decode 5 3 damagedCluster) historiesFive 0 2 payloadA
+unfolding five settingOf historiesFive
+supposed-five = damaged-cluster (named five) undamagedFive flightsFive (decode 5 3 damagedCluster) 0 2 payloadA damaged-five
+
+pub damaged-three : DamagedCluster (named three) undamagedThree flightsThree (decode 3 1 waitingCluster) 0 2 payloadA
+unfolding three settingOf majority historiesThree count sum oneIf committed held historyOf undamagedThree imageA imageWith flightsThree epochAt epochOf logLength lowest isBlank payloadIn payloadA same
+damaged-three = record {
+  before = before-three;
+  damage = damage-three;
+  agree = agreed 3 2 writtenTo historiesThree (λ c h. alike-A c);
+  onMajority = omega arith;
+  leaderHeld = refl;
+}
