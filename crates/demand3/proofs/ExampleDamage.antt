@@ -20,7 +20,7 @@ use Rattle.protocol.specs.Call.{named}
 use Rattle.example.specs.Undamaged.{payloadA, payloadB, payloadC, noise, imageWith, leaderImage, imageAB, emptyImage, gapImage, imageA, undamagedFive, undamagedThree}
 use Rattle.example.specs.Damaged.{five, damagedCluster}
 use Rattle.example.specs.Waiting.{three, waitingCluster}
-use Rattle.demand3.specs.Histories.{inFlightFive, writtenTo, flightsFive, historiesFive, flightsThree, historiesThree}
+use Rattle.demand3.specs.Histories.{inFlightFive, writtenTo, flightsFive, historiesFive, flightsThree}
 use Rattle.demand3.proofs.BeforeLaws.{damaged-cluster}
 use Rattle.example.proofs.ComputedLaws.{computed}
 
@@ -159,6 +159,9 @@ damage-three (suc (suc zero)) h = record {
 damage-three (suc (suc (suc c))) h = absurd (omega arith)
 
 -- ---- the logs agree
+
+unfoldable historiesThree : ℕ → History
+historiesThree c = historyOf 1 (flightsThree c) (undamagedThree c)
 
 -- every slot of every log has epoch e and the same payload as the others there
 pub record Alike (e : ℕ) (paid : ℕ → Bytes) (h : History) : Type 0 where

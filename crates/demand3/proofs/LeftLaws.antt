@@ -4,10 +4,11 @@ use mathlib.Core.Path.{_≡_, ap, _∙_}
 use mathlib.Core.Option.{some}
 use native.Mathlib.Omega.{arith}
 use lib.ListN.{length}
-use Rattle.search.specs.Search.{put}
+use Rattle.search.specs.Put.{put}
 use Rattle.slices.specs.Parts.{Bytes}
 use Rattle.record.specs.Meaning.{Entry}
-use Rattle.image.specs.Image.{entryAt, setEntry}
+use Rattle.image.specs.Image.{entryAt}
+use Rattle.image.specs.SetSlot.{setEntry}
 use Rattle.image.specs.Cluster.{imageAt, decode}
 use Rattle.image.proofs.DecodeLaws.{entry-fits}
 use Rattle.image.proofs.ClusterLaws.{length-in-image, entry-put}

@@ -3,7 +3,7 @@ use Prim.Native.Nat.{ℕ, zero, suc}
 use mathlib.Core.Bool.{Bool, false, cond, _||_}
 use lib.Dec.{eqb}
 use Rattle.slices.specs.Parts.{Bytes}
-use Rattle.example.specs.Undamaged.{payloadA, payloadB, payloadC, undamagedFive, undamagedThree}
+use Rattle.example.specs.Undamaged.{payloadA, payloadB, payloadC, undamagedFive}
 use Rattle.demand3.specs.Supposed.{History}
 use Rattle.demand3.specs.Before.{Flight, historyOf}
 
@@ -28,6 +28,3 @@ historiesFive c = historyOf 3 (flightsFive c) (undamagedFive c)
 -- nothing
 unfoldable pub flightsThree : ℕ → Flight
 flightsThree c = record { inFlight = λ k. false; payload = writtenTo }
-
-unfoldable pub historiesThree : ℕ → History
-historiesThree c = historyOf 1 (flightsThree c) (undamagedThree c)

@@ -8,7 +8,8 @@ use borrow.Author.Tests.{eq-eqb, ne-eqb}
 use Rattle.search.proofs.UpdateLaws.{put-same, put-other}
 use Rattle.slices.specs.Parts.{Bytes}
 use Rattle.record.specs.Meaning.{good, blank, intact}
-use Rattle.image.specs.Image.{Image, setRecord, setEntry}
+use Rattle.image.specs.Image.{Image}
+use Rattle.image.specs.SetSlot.{setRecord, setEntry}
 use Rattle.image.specs.View.{Condition, Unused, Whole, RecordLost, Faulty, Lost, condition, epochOf, isLost, conditionAt, epochAt, logLength}
 use Rattle.image.specs.Verdict.{isFresh, verdictOf, verdictAt}
 use Rattle.image.proofs.ViewLaws.{Sound}

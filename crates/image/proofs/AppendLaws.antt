@@ -15,7 +15,8 @@ use Rattle.record.specs.Meaning.{Record, intact, isEpoch, readEntry, writeEntry
 use Rattle.record.proofs.LayoutLaws.{length-record, length-entry}
 use Rattle.record.proofs.RecordLaws.{read-good, is-epoch}
 use Rattle.record.proofs.EntryLaws.{read-intact, write-read-entry, intact-for, intact-payload}
-use Rattle.image.specs.Image.{Image, imageSize, recordAt, entryAt, decodeImage, setRecord, setEntry}
+use Rattle.image.specs.Image.{Image, imageSize, recordAt, entryAt, decodeImage}
+use Rattle.image.specs.SetSlot.{setRecord, setEntry}
 use Rattle.image.specs.View.{Whole, conditionAt, logLength, callRefusal, readRefusal}
 use Rattle.image.specs.Read.{isWhole, hasPayload, payloadOf}
 use Rattle.image.specs.Append.{appendRefusal, stored, appended}

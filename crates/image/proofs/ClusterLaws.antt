@@ -5,14 +5,15 @@ use native.Mathlib.Omega.{arith}
 use native.Mathlib.Nat.{mul-le-mul-left}
 use native.Mathlib.Decide.{ℕ-discrete, decLt}
 use lib.ListN.{length}
-use Rattle.search.specs.Search.{put}
+use Rattle.search.specs.Put.{put}
 use Rattle.search.proofs.UpdateLaws.{put-same, put-other}
 use Rattle.slices.specs.Parts.{Bytes, part, spliced}
 use Rattle.slices.proofs.PartLaws.{length-part, part-part}
 use Rattle.slices.proofs.SpliceLaws.{length-spliced, spliced-before, spliced-behind}
 use Rattle.slices.proofs.NestedLaws.{part-spliced}
 use Rattle.record.specs.Meaning.{readRecord, readEntry}
-use Rattle.image.specs.Image.{Image, imageSize, recordAt, entryAt, decodeImage, setRecord, setEntry}
+use Rattle.image.specs.Image.{Image, imageSize, recordAt, entryAt, decodeImage}
+use Rattle.image.specs.SetSlot.{setRecord, setEntry}
 use Rattle.image.specs.Cluster.{imageAt, imagePart, decode}
 use Rattle.image.proofs.DecodeLaws.{record-fits, entry-fits, record-there, entry-there, record-spliced, entry-spliced}
 

@@ -9,12 +9,13 @@ use native.Mathlib.Decide.{ℕ-discrete}
 use lib.Dec.{ltb}
 use lib.ListN.{length}
 use borrow.Author.Tests.{lt-ltb, ltb-true}
-use Rattle.search.specs.Search.{put}
+use Rattle.search.specs.Put.{put}
 use Rattle.search.proofs.UpdateLaws.{put-same, put-other}
 use Rattle.slices.specs.Parts.{Bytes, part, spliced}
 use Rattle.slices.proofs.SpliceLaws.{spliced-here, spliced-before, spliced-behind, spliced-other}
 use Rattle.record.specs.Meaning.{blank, broken, readHeader, readRecord, readEntry}
-use Rattle.image.specs.Image.{Image, imageSize, recordAt, entryAt, decodeImage, setRecord, setEntry}
+use Rattle.image.specs.Image.{Image, imageSize, recordAt, entryAt, decodeImage}
+use Rattle.image.specs.SetSlot.{setRecord, setEntry}
 
 pub size-is : (m : ℕ) → imageSize m ≡ 28 + 34 * m + 240 * m
 unfolding imageSize

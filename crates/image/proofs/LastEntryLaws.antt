@@ -16,7 +16,8 @@ use Rattle.record.specs.Meaning.{Record, good, blank, bad, Entry, intact, broke
 use Rattle.record.specs.Exactly.{GoodFor}
 use Rattle.record.proofs.LayoutLaws.{length-blank, length-entry}
 use Rattle.record.proofs.RecordLaws.{good-for, read-blank, epoch-low, epoch-high}
-use Rattle.image.specs.Image.{Image, imageSize, recordAt, entryAt, decodeImage, setRecord}
+use Rattle.image.specs.Image.{Image, imageSize, recordAt, entryAt, decodeImage}
+use Rattle.image.specs.SetSlot.{setRecord}
 use Rattle.image.specs.View.{Condition, Unused, Whole, RecordLost, Faulty, Lost, condition, epochOf, conditionAt, epochAt, logLength, readRefusal}
 use Rattle.image.specs.Verdict.{verdictOf, verdictAt}
 use Rattle.image.specs.Append.{lastEpoch, appendRefusal, stored, appended}

@@ -4,11 +4,13 @@ use mathlib.Core.Path.{_≡_, refl, sym, ap, fun-ext}
 use mathlib.Core.Bool.{Bool, false, true≢false}
 use native.Mathlib.Omega.{arith}
 use native.Mathlib.Decide.{ℕ-discrete}
-use Rattle.search.specs.Search.{lowest, put}
+use Rattle.search.specs.Search.{lowest}
+use Rattle.search.specs.Put.{put}
 use Rattle.search.proofs.SearchLaws.{lowest-is}
 use Rattle.search.proofs.UpdateLaws.{put-same, put-other, put-case}
 use Rattle.record.specs.Meaning.{Record, good, blank, Entry}
-use Rattle.image.specs.Image.{Image, setRecord, setEntry}
+use Rattle.image.specs.Image.{Image}
+use Rattle.image.specs.SetSlot.{setRecord, setEntry}
 use Rattle.image.specs.View.{condition, epochOf, isBlank, isLost, conditionAt, epochAt, logLength}
 use Rattle.image.proofs.ViewLaws.{Sound, length-le, used-below}
 

@@ -1,6 +1,5 @@
 -- Document 01's fleet: n images of m slots end to end in one buffer. Replicas count from 0 here: replica c has number c + 1.
-use Prim.Native.Nat.{ℕ, suc, _+_, _*_, _≤_}
-use mathlib.Core.List.{List}
+use Prim.Native.Nat.{ℕ, suc, _+_, _*_}
 use Rattle.search.specs.Search.{joined}
 use Rattle.slices.specs.Parts.{Bytes, part}
 use Rattle.image.specs.Image.{Image, imageSize, decodeImage, encodeImage}
@@ -11,10 +10,6 @@ Cluster = ℕ → Image
 -- where the image of replica c begins, and where n of them end
 unfoldable pub imageAt : ℕ → ℕ → ℕ
 imageAt m c = imageSize m * c
-
--- the image of replica c lies in a buffer of so many bytes
-abbrev pub ImageFits : ℕ → ℕ → ℕ → Type 0
-ImageFits m size c = imageAt m c + imageSize m ≤ size
 
 -- the bytes of replica c
 unfoldable pub imagePart : ℕ → Bytes → ℕ → Bytes

@@ -1,9 +1,9 @@
 -- An image taken apart: document 01's card image as a header, and a record and an entry for each slot. Slots count from 0 here: slot k has index k + 1.
 use Prim.Native.Nat.{ℕ, suc, _+_, _*_}
 use mathlib.Core.Bool.{cond}
-use mathlib.Core.List.{List, [], _++_}
+use mathlib.Core.List.{[], _++_}
 use lib.Dec.{ltb}
-use Rattle.search.specs.Search.{put, joined}
+use Rattle.search.specs.Search.{joined}
 use Rattle.slices.specs.Parts.{Bytes, part}
 use Rattle.record.specs.Layout.{headerSize, recordSize, entrySize, headerBytes, blankRecord, freshEntry}
 use Rattle.record.specs.Meaning.{Header, Record, blank, Entry, broken, readHeader, readRecord, readEntry, writeHeader, writeRecord, writeEntry}
@@ -36,13 +36,6 @@ encodeImage c n m i =
     writeHeader c n m (i .header)
     ++ joined m (λ k. writeRecord (suc k) (i .records k))
     ++ joined m (λ k. writeEntry (suc k) (i .entries k))
-
--- one record, one entry written anew
-unfoldable pub setRecord : Image → ℕ → Record → Image
-setRecord i k r = record { header = i .header; records = put (i .records) k r; entries = i .entries }
-
-unfoldable pub setEntry : Image → ℕ → Entry → Image
-setEntry i k x = record { header = i .header; records = i .records; entries = put (i .entries) k x }
 
 -- 01's fresh image: a header, blank records and fresh entries
 unfoldable pub freshImage : ℕ → ℕ → ℕ → Bytes

@@ -1,6 +1,7 @@
 -- What the contracts of `image` cite.
 pub mod Refusal
 pub mod Image
+pub mod SetSlot
 pub mod View
 pub mod Verdict
 pub mod Seen
@@ -8,6 +9,7 @@ pub mod Scan
 pub mod Read
 pub mod Append
 pub mod Cluster
+pub mod Fits
 pub mod Answers
 pub mod AppendList
 pub mod AppendClaim

@@ -2,7 +2,8 @@
 ghost use Prim.Native.Nat.{_+_, _<_, _≤_};
 ghost use mathlib.Core.Path.{_≡_};
 ghost use Rattle.image.specs.Image.{imageSize, recordAt, entryAt};
-ghost use Rattle.image.specs.Cluster.{imageAt, ImageFits};
+ghost use Rattle.image.specs.Cluster.{imageAt};
+ghost use Rattle.image.specs.Fits.{ImageFits};
 
 // Document 01's head, line and cell.
 pub const HEADER_SIZE: usize = 28;

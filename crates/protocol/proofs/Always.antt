@@ -7,8 +7,10 @@ use native.Mathlib.Omega.{arith}
 use Rattle.image.specs.Cluster.{Cluster}
 use Rattle.planner.specs.Setting.{Setting, viewsOf}
 use Rattle.planner.specs.Rules.{answer}
-use Rattle.protocol.specs.Store.{Store, storeReplica, afterStore}
-use Rattle.protocol.specs.Recovery.{next, steps}
+use Rattle.protocol.specs.Store.{Store, storeReplica}
+use Rattle.protocol.specs.ClusterSteps.{afterStore}
+use Rattle.protocol.specs.Recovery.{next}
+use Rattle.protocol.specs.ClusterSteps.{steps}
 use Rattle.protocol.proofs.Due.{due-facts}
 use Rattle.protocol.proofs.Reach.{Torn, Reach, reach-keeps}
 use Rattle.protocol.proofs.TornLaw.{torn-law}

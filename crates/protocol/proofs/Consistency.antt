@@ -4,16 +4,18 @@ use mathlib.Core.Bool.{true}
 use Prim.Native.Nat.{ℕ, suc, _<_}
 use native.Mathlib.Omega.{arith}
 use native.Mathlib.Decide.{ℕ-discrete}
-use Rattle.search.specs.Search.{put}
+use Rattle.search.specs.Put.{put}
 use Rattle.search.proofs.UpdateLaws.{put-same, put-other}
 use Rattle.slices.specs.Parts.{Bytes}
 use Rattle.record.specs.Meaning.{intact, broken}
-use Rattle.image.specs.Image.{Image, setEntry}
+use Rattle.image.specs.Image.{Image}
+use Rattle.image.specs.SetSlot.{setEntry}
 use Rattle.image.specs.Cluster.{Cluster}
 use Rattle.image.specs.View.{View}
 use Rattle.image.proofs.StoreLaws.{entry-at, entry-off}
 use Rattle.planner.specs.Setting.{Setting, viewsOf}
-use Rattle.protocol.specs.Store.{Store, afterStore}
+use Rattle.protocol.specs.Store.{Store}
+use Rattle.protocol.specs.ClusterSteps.{afterStore}
 use Rattle.protocol.proofs.ReadyPlan.{ReadyPlan}
 use Rattle.protocol.proofs.Due.{Due}
 use Rattle.protocol.proofs.Slots.{answers-readable, below-differing}

@@ -8,7 +8,8 @@ use lib.Dec.{eqb}
 use borrow.Author.Tests.{eqb-true}
 use Rattle.slices.specs.Parts.{Bytes}
 use Rattle.record.specs.Meaning.{Record, good, blank, bad, Entry, intact, broken}
-use Rattle.image.specs.Image.{Image, setRecord, setEntry}
+use Rattle.image.specs.Image.{Image}
+use Rattle.image.specs.SetSlot.{setRecord, setEntry}
 use Rattle.image.specs.View.{View, Condition, Unused, Whole, RecordLost, Faulty, Lost, condition, epochOf, isBlank, isLost, conditionAt, epochAt, logLength, viewOf}
 use Rattle.image.specs.Read.{isWhole}
 use Rattle.image.proofs.ViewLaws.{Sound, readable-present, readable-sound, readable-intro}

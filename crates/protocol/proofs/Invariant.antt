@@ -12,7 +12,8 @@ use Rattle.image.specs.Cluster.{Cluster}
 use Rattle.image.specs.View.{View}
 use Rattle.planner.specs.Setting.{Setting, viewsOf}
 use Rattle.planner.specs.Rules.{majority, end}
-use Rattle.protocol.specs.Store.{Store, afterStore}
+use Rattle.protocol.specs.Store.{Store}
+use Rattle.protocol.specs.ClusterSteps.{afterStore}
 use Rattle.protocol.specs.Recovery.{next, firstDiffering}
 use Rattle.protocol.proofs.Effects.{Blanked, Mended, Appended}
 use Rattle.protocol.proofs.Due.{due-facts}

@@ -5,17 +5,18 @@ use Prim.Native.Nat.{ℕ, _≤_, _<_}
 use native.Mathlib.Omega.{arith}
 use native.Mathlib.Decide.{ℕ-discrete}
 use borrow.Author.Tests.{eq-eqb}
-use Rattle.search.specs.Search.{put}
+use Rattle.search.specs.Put.{put}
 use Rattle.search.proofs.UpdateLaws.{put-same, put-other}
 use Rattle.slices.specs.Parts.{Bytes}
 use Rattle.record.specs.Meaning.{Record, good, blank, bad, Entry, intact, broken}
 use Rattle.image.specs.Cluster.{Cluster}
-use Rattle.image.specs.Image.{setEntry, setRecord}
+use Rattle.image.specs.SetSlot.{setEntry, setRecord}
 use Rattle.image.specs.View.{condition, epochOf, conditionAt, epochAt, viewOf}
 use Rattle.image.proofs.StoreLaws.{entry-off}
 use Rattle.planner.specs.Setting.{Setting, viewsOf}
 use Rattle.planner.specs.Rules.{isFaulty, isRecordLost}
-use Rattle.protocol.specs.Store.{Store, storeEntry, storeRecord, storeBlank, storeReplica, storeSlot, afterStore}
+use Rattle.protocol.specs.Store.{Store, storeEntry, storeRecord, storeBlank, storeReplica, storeSlot}
+use Rattle.protocol.specs.ClusterSteps.{afterStore}
 use Rattle.protocol.proofs.Effects.{IntactAt, whole-intact, lost-whole}
 use Rattle.protocol.proofs.ReadyPlan.{ReadyPlan}
 use Rattle.protocol.proofs.LeaderDue.{LeaderDue, leader-blank, leader-fetch, leader-write}

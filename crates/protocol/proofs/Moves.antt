@@ -3,17 +3,19 @@ use mathlib.Core.Path.{_≡_, refl, sym, ap, _∙_}
 use mathlib.Core.Bool.{Bool, true, false}
 use Prim.Native.Nat.{ℕ, _≤_, _<_}
 use native.Mathlib.Omega.{arith}
-use Rattle.search.specs.Search.{put}
+use Rattle.search.specs.Put.{put}
 use Rattle.search.proofs.UpdateLaws.{put-same, put-other}
 use Rattle.slices.specs.Same.{same}
 use Rattle.record.specs.Meaning.{good, blank, Entry, intact}
-use Rattle.image.specs.Image.{Image, setRecord, setEntry}
+use Rattle.image.specs.Image.{Image}
+use Rattle.image.specs.SetSlot.{setRecord, setEntry}
 use Rattle.image.specs.Cluster.{Cluster}
 use Rattle.image.specs.View.{View, Condition, Unused, Whole, RecordLost, Faulty, Lost, condition}
 use Rattle.image.proofs.StoreLaws.{entry-at, entry-off, record-off}
 use Rattle.planner.specs.Setting.{Setting, viewsOf}
 use Rattle.planner.specs.Rules.{isFaulty, isRecordLost, answers, Keep, isTruncate, isWait, rule, donor, end}
-use Rattle.protocol.specs.Store.{Store, afterStore}
+use Rattle.protocol.specs.Store.{Store}
+use Rattle.protocol.specs.ClusterSteps.{afterStore}
 use Rattle.protocol.specs.Recovery.{firstDiffering, unlike}
 use Rattle.protocol.proofs.Effects.{view, Blanked, Mended, Appended, blank-effect, mend-effect, write-effect, append-effect, fill-effect}
 use Rattle.protocol.proofs.ReadyPlan.{ReadyPlan}

@@ -2,13 +2,14 @@
 use Prim.Native.Nat.{ℕ}
 use mathlib.Core.Path.{_≡_}
 use mathlib.Core.Option.{some}
-use Rattle.search.specs.Search.{put}
+use Rattle.search.specs.Put.{put}
 use Rattle.slices.specs.Parts.{Bytes}
 use Rattle.record.specs.Meaning.{broken}
-use Rattle.image.specs.Image.{setEntry}
+use Rattle.image.specs.SetSlot.{setEntry}
 use Rattle.image.specs.Cluster.{Cluster}
 use Rattle.planner.specs.Setting.{Setting}
-use Rattle.protocol.specs.Store.{Store, storeEntry, afterStore}
+use Rattle.protocol.specs.Store.{Store, storeEntry}
+use Rattle.protocol.specs.ClusterSteps.{afterStore}
 use Rattle.protocol.specs.Recovery.{next}
 
 -- an entry store that is interrupted leaves bytes that are no intact entry

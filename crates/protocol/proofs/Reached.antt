@@ -12,7 +12,8 @@ use Rattle.planner.specs.Setting.{Setting, settingOf}
 use Rattle.planner.specs.Rules.{answer, Waiting}
 use Rattle.planner.specs.Plan.{viewsIn}
 use Rattle.protocol.specs.Store.{Store}
-use Rattle.protocol.specs.Recovery.{next, ifReady, steps}
+use Rattle.protocol.specs.Recovery.{next, ifReady}
+use Rattle.protocol.specs.ClusterSteps.{steps}
 use Rattle.protocol.specs.StepBytes.{nextIn, stepsBytes, storesBytes}
 use Rattle.protocol.specs.Call.{Numbers, named, refusalIn}
 use Rattle.protocol.proofs.Work.{work-bound}

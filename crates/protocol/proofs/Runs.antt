@@ -6,8 +6,10 @@ use native.Mathlib.Omega.{arith}
 use Rattle.image.specs.Cluster.{Cluster}
 use Rattle.planner.specs.Setting.{Setting, viewsOf}
 use Rattle.planner.specs.Rules.{answer}
-use Rattle.protocol.specs.Store.{Store, afterStore}
-use Rattle.protocol.specs.Recovery.{next, after, steps, stores}
+use Rattle.protocol.specs.Store.{Store}
+use Rattle.protocol.specs.ClusterSteps.{afterStore}
+use Rattle.protocol.specs.Recovery.{next, after}
+use Rattle.protocol.specs.ClusterSteps.{steps, stores}
 use Rattle.protocol.proofs.Due.{due-facts}
 use Rattle.protocol.proofs.Moves.{moved}
 use Rattle.protocol.proofs.PlanLaws.{same-plan, answer-same}

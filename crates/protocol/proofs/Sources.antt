@@ -4,10 +4,11 @@ use mathlib.Core.Bool.{true, true≢false}
 use Prim.Native.Nat.{ℕ, suc, _<_}
 use native.Mathlib.Omega.{arith}
 use native.Mathlib.Decide.{ℕ-discrete, decLt}
-use Rattle.search.specs.Search.{put}
+use Rattle.search.specs.Put.{put}
 use Rattle.search.proofs.UpdateLaws.{put-same}
 use Rattle.record.specs.Meaning.{good, blank, Entry, intact}
-use Rattle.image.specs.Image.{Image, setEntry, setRecord}
+use Rattle.image.specs.Image.{Image}
+use Rattle.image.specs.SetSlot.{setEntry, setRecord}
 use Rattle.image.specs.Cluster.{Cluster}
 use Rattle.image.specs.View.{logLength, condition, viewOf, conditionAt}
 use Rattle.image.specs.Read.{isWhole}
@@ -15,7 +16,8 @@ use Rattle.image.proofs.ViewLaws.{readable-sound}
 use Rattle.image.proofs.StoreLaws.{entry-at, entry-off, record-off}
 use Rattle.planner.specs.Setting.{Setting, viewsOf}
 use Rattle.planner.specs.Rules.{donor}
-use Rattle.protocol.specs.Store.{Store, afterStore, storeReplica}
+use Rattle.protocol.specs.Store.{Store, storeReplica}
+use Rattle.protocol.specs.ClusterSteps.{afterStore}
 use Rattle.protocol.proofs.Effects.{view, Mended, Appended, blank-effect, mend-effect, write-effect, append-effect, fill-effect}
 use Rattle.protocol.proofs.ReadyPlan.{ReadyPlan}
 use Rattle.protocol.proofs.LeaderDue.{LeaderDue, leader-blank, leader-fetch, leader-write}

@@ -5,7 +5,7 @@ use mathlib.Core.Bool.{true}
 use mathlib.Core.Option.{Option, none, some}
 use native.Mathlib.Omega.{arith}
 use lib.ListN.{length}
-use Rattle.search.specs.Search.{put}
+use Rattle.search.specs.Put.{put}
 use Rattle.slices.specs.Parts.{Bytes, part}
 use Rattle.slices.proofs.PartLaws.{length-part}
 use Rattle.record.specs.Layout.{recordBytes, blankRecord}
@@ -13,13 +13,16 @@ use Rattle.record.specs.Meaning.{Record, Entry, isEpoch}
 use Rattle.record.proofs.LayoutLaws.{length-record, length-blank}
 use Rattle.record.proofs.RecordLaws.{read-good, read-blank}
 use Rattle.record.proofs.EntryLaws.{intact-for}
-use Rattle.image.specs.Image.{recordAt, entryAt, setRecord, setEntry}
+use Rattle.image.specs.Image.{recordAt, entryAt}
+use Rattle.image.specs.SetSlot.{setRecord, setEntry}
 use Rattle.image.specs.Cluster.{Cluster, imageAt, decode}
 use Rattle.image.proofs.DecodeLaws.{record-fits, entry-fits}
 use Rattle.image.proofs.ClusterLaws.{image-fits, entry-means, length-in-image, record-put, entry-put}
 use Rattle.planner.specs.Setting.{Setting, viewsOf}
-use Rattle.protocol.specs.Store.{Store, storeEntry, storeRecord, storeBlank, storeReplica, storeSlot, afterStore}
-use Rattle.protocol.specs.Recovery.{next, after, steps, stores}
+use Rattle.protocol.specs.Store.{Store, storeEntry, storeRecord, storeBlank, storeReplica, storeSlot}
+use Rattle.protocol.specs.ClusterSteps.{afterStore}
+use Rattle.protocol.specs.Recovery.{next, after}
+use Rattle.protocol.specs.ClusterSteps.{steps, stores}
 use Rattle.protocol.specs.StepBytes.{afterStoreBytes, nextIn, stepsBytes, storesBytes}
 use Rattle.protocol.proofs.ReadyPlan.{ReadyPlan}
 use Rattle.protocol.proofs.Due.{Due, due-facts}

@@ -5,17 +5,19 @@ use mathlib.Core.Option.{Option, none, some}
 use Prim.Native.Nat.{ℕ}
 use native.Mathlib.Omega.{arith}
 use native.Mathlib.Decide.{ℕ-discrete}
-use Rattle.search.specs.Search.{put}
+use Rattle.search.specs.Put.{put}
 use Rattle.search.proofs.UpdateLaws.{put-same, put-other, put-put}
 use Rattle.slices.specs.Parts.{Bytes}
 use Rattle.record.specs.Meaning.{broken}
-use Rattle.image.specs.Image.{Image, setEntry}
+use Rattle.image.specs.Image.{Image}
+use Rattle.image.specs.SetSlot.{setEntry}
 use Rattle.image.specs.Cluster.{Cluster}
 use Rattle.image.specs.View.{View}
 use Rattle.image.proofs.StoreLaws.{entry-at, entry-off}
 use Rattle.planner.specs.Setting.{Setting, viewsOf}
 use Rattle.planner.specs.Rules.{answers}
-use Rattle.protocol.specs.Store.{sameEntry, Store, storeEntry, afterStore}
+use Rattle.protocol.specs.Store.{sameEntry, Store, storeEntry}
+use Rattle.protocol.specs.ClusterSteps.{afterStore}
 use Rattle.protocol.specs.Recovery.{_or_, leaderStore, unlike, due, firstOf, followersStore, next}
 use Rattle.protocol.proofs.Effects.{view, IntactAt, torn-effect, fill-effect}
 use Rattle.protocol.proofs.ReadyPlan.{ReadyPlan}

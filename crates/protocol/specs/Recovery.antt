@@ -1,5 +1,5 @@
--- Document 01, "Settling": the first store still outstanding, and steps.
-use Prim.Native.Nat.{ℕ, zero, suc, pred}
+-- Document 01, "Settling": the first store still outstanding.
+use Prim.Native.Nat.{ℕ, pred}
 use mathlib.Core.Bool.{Bool, true, false, cond, not, _&&_}
 use mathlib.Core.Option.{Option, none, some}
 use lib.Dec.{eqb, ltb}
@@ -8,7 +8,7 @@ use Rattle.image.specs.View.{View}
 use Rattle.image.specs.Cluster.{Cluster}
 use Rattle.planner.specs.Setting.{Setting, viewsOf}
 use Rattle.planner.specs.Rules.{isFaulty, isRecordLost, answers, rule, isFetch, donor, end, Answer, Refused, Waiting, Ready, answer}
-use Rattle.protocol.specs.Store.{Store, storeEntry, storeRecord, storeBlank, afterStore, sameEntry}
+use Rattle.protocol.specs.Store.{Store, storeEntry, storeRecord, storeBlank, sameEntry}
 
 -- the first of two stores
 infixr 30 _or_
@@ -103,12 +103,3 @@ module _ (S : Setting) (F : Cluster) where
 unfoldable pub after : {A : Type 0} → Option Store → A → (Store → A) → A
 after none d f = d
 after (some s) d f = f s
-
--- what at most b steps leave, and how many stores they make
-unfoldable pub steps : Setting → ℕ → Cluster → Cluster
-steps S zero F = F
-steps S (suc b) F = after (next S F) F (λ s. steps S b (afterStore s F))
-
-unfoldable pub stores : Setting → ℕ → Cluster → ℕ
-stores S zero F = zero
-stores S (suc b) F = after (next S F) zero (λ s. suc (stores S b (afterStore s F)))

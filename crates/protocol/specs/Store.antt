@@ -1,12 +1,9 @@
--- The stores of recovery, and what each leaves of a cluster that is taken apart.
+-- The stores of recovery.
 use Prim.Native.Nat.{ℕ}
 use mathlib.Core.Bool.{Bool, false, _&&_}
 use lib.Dec.{eqb}
-use Rattle.search.specs.Search.{put}
 use Rattle.slices.specs.Same.{same}
-use Rattle.record.specs.Meaning.{good, blank, Entry, intact, broken}
-use Rattle.image.specs.Image.{setRecord, setEntry}
-use Rattle.image.specs.Cluster.{Cluster}
+use Rattle.record.specs.Meaning.{Entry, intact, broken}
 
 -- 01's store: the entry of slot k, copied to replica c from replica d; the record of slot k, written for epoch e; the record blanked
 pub data Store : Type 0 where
@@ -29,11 +26,6 @@ unfoldable pub storeKind : Store → ℕ
 storeKind (storeEntry c k d) = 1
 storeKind (storeRecord c k e) = 2
 storeKind (storeBlank c k) = 3
-
-unfoldable pub afterStore : Store → Cluster → Cluster
-afterStore (storeEntry c k d) F = put F c (setEntry (F c) k (F d .entries k))
-afterStore (storeRecord c k e) F = put F c (setRecord (F c) k (good e))
-afterStore (storeBlank c k) F = put F c (setRecord (F c) k blank)
 
 -- two entries of one slot have the same bytes
 unfoldable pub sameEntry : Entry → Entry → Bool

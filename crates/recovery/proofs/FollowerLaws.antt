@@ -21,7 +21,7 @@ use Rattle.planner.specs.Survey.{SurveyIs}
 use Rattle.planner.specs.declared.Survey.{Survey}
 use Rattle.protocol.specs.Store.{Store}
 use Rattle.protocol.specs.Recovery.{_or_, followerStore, isSome, firstOf, unlike, due, followersStore}
-use Rattle.image.specs.Cluster.{ImageFits}
+use Rattle.image.specs.Fits.{ImageFits}
 use Rattle.recovery.specs.Look.{Looked, InRange}
 use Rattle.recovery.specs.declared.Shape.{Shape}
 

@@ -7,7 +7,7 @@ use lib.Dec.{ltb}
 use lib.ListN.{length, getD, set}
 use lib.Seq.{getD-set-same, getD-set-other}
 use borrow.Author.Tests.{lt-ltb, le-ltb}
-use Rattle.search.specs.Search.{put}
+use Rattle.search.specs.Put.{put}
 use Rattle.search.proofs.UpdateLaws.{put-case, put-back}
 use Rattle.image.specs.View.{View, Condition, Unused, Whole}
 use Rattle.image.specs.View.{conditionNumber}

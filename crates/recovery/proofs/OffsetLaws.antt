@@ -5,7 +5,7 @@ use Rattle.record.specs.Layout.{recordSize, entrySize}
 use Rattle.image.specs.Image.{recordAt, entryAt}
 use Rattle.image.specs.Cluster.{imageAt}
 use Rattle.image.proofs.DecodeLaws.{record-fits, entry-fits}
-use Rattle.image.specs.Cluster.{ImageFits}
+use Rattle.image.specs.Fits.{ImageFits}
 
 module _ (m c k size : ℕ) (h : k < m) (f : ImageFits m size c) where
   pub record-room : imageAt m c + recordAt k + recordSize ≤ size

@@ -18,7 +18,7 @@ use Rattle.protocol.specs.Recovery.{after}
 use Rattle.protocol.specs.StepBytes.{afterStoreBytes, nextIn, stepsBytes, storesBytes}
 use Rattle.protocol.specs.Call.{step, run, Numbers, named, refusalIn}
 use Rattle.protocol.specs.CallResult.{Result, refused, waiting, stored, recovered, stepResult, runResult, callResult, callBytes}
-use Rattle.image.specs.Cluster.{ImageFits}
+use Rattle.image.specs.Fits.{ImageFits}
 use Rattle.recovery.specs.NextStore.{storeOf, StoreFits}
 use Rattle.recovery.specs.OutlookIs.{OutlookIs}
 use Rattle.recovery.specs.declared.NextStore.{NextStore}

@@ -11,7 +11,8 @@ use Rattle.planner.specs.Setting.{Setting, settingOf, viewsOf}
 use Rattle.planner.specs.Rules.{answer, end}
 use Rattle.planner.specs.Plan.{viewsIn}
 use Rattle.planner.specs.declared.Survey.{Survey}
-use Rattle.protocol.specs.Store.{Store, storeReplica, storeSlot, afterStore}
+use Rattle.protocol.specs.Store.{Store, storeReplica, storeSlot}
+use Rattle.protocol.specs.ClusterSteps.{afterStore}
 use Rattle.protocol.specs.Recovery.{_or_, leaderStore, followersStore, isSome, ifReady, next, after}
 use Rattle.protocol.specs.StepBytes.{afterStoreBytes, nextIn}
 use Rattle.protocol.specs.Call.{Numbers, named, refusalIn}

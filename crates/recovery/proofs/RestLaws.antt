@@ -12,7 +12,8 @@ use Rattle.image.specs.Cluster.{Cluster}
 use Rattle.image.specs.View.{View}
 use Rattle.planner.specs.Setting.{Setting, viewsOf}
 use Rattle.planner.specs.Rules.{isFaulty, isRecordLost, answers, isFetch, isTruncate, rule, end}
-use Rattle.protocol.specs.Store.{Store, storeEntry, storeRecord, storeBlank, storeReplica, afterStore}
+use Rattle.protocol.specs.Store.{Store, storeEntry, storeRecord, storeBlank, storeReplica}
+use Rattle.protocol.specs.ClusterSteps.{afterStore}
 use Rattle.protocol.specs.Recovery.{_or_, ifBelow, leaderStore, differs, firstDiffering, followerStore, isSome, unlike, due, firstOf, followersStore, next}
 use Rattle.protocol.proofs.Due.{Due, by-leader, by-follower, due-facts}
 use Rattle.protocol.proofs.LeaderDue.{leader-blank, leader-fetch, leader-write}

@@ -7,12 +7,14 @@ use native.Mathlib.Omega.{arith}
 use borrow.Author.Tests.{lt-ltb, le-ltb}
 use Rattle.search.proofs.UpdateLaws.{put-same, put-case}
 use Rattle.record.specs.Meaning.{good, blank, Entry, intact}
-use Rattle.image.specs.Image.{Image, setRecord, setEntry}
+use Rattle.image.specs.Image.{Image}
+use Rattle.image.specs.SetSlot.{setRecord, setEntry}
 use Rattle.image.specs.Cluster.{Cluster}
 use Rattle.image.specs.View.{View, Condition, Unused, Whole, condition, epochOf, viewOf}
 use Rattle.image.proofs.StoreLaws.{record-condition, record-condition-other, record-epoch, record-epoch-other}
 use Rattle.planner.specs.Setting.{Setting, viewsOf}
-use Rattle.protocol.specs.Store.{Store, storeEntry, storeRecord, storeBlank, storeReplica, afterStore}
+use Rattle.protocol.specs.Store.{Store, storeEntry, storeRecord, storeBlank, storeReplica}
+use Rattle.protocol.specs.ClusterSteps.{afterStore}
 use Rattle.protocol.specs.Recovery.{next}
 use Rattle.protocol.proofs.Effects.{view, Mended, Appended, view-ext, blank-effect, mend-effect, write-effect, append-effect, fill-effect}
 use Rattle.protocol.proofs.Due.{Due, by-leader, by-follower, due-facts}

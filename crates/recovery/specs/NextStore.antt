@@ -1,7 +1,7 @@
 -- For proofs only. The store that the code's enum names, and that it lies in the buffer.
 use Prim.Native.Nat.{ℕ, _<_}
 use mathlib.Core.Option.{Option, none, some}
-use Rattle.image.specs.Cluster.{ImageFits}
+use Rattle.image.specs.Fits.{ImageFits}
 use Rattle.protocol.specs.Store.{Store, storeEntry, storeRecord, storeBlank}
 use Rattle.recovery.specs.declared.NextStore.{NextStore}
 use Rattle.recovery.specs.declared.NextStore.the-variants.{Nothing, Entry, Record, Blank}

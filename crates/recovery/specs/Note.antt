@@ -4,7 +4,7 @@ use mathlib.Core.Path.{_≡_}
 use mathlib.Core.Bool.{true, cond}
 use lib.Dec.{ltb}
 use lib.ListN.{length, set}
-use Rattle.search.specs.Search.{put}
+use Rattle.search.specs.Put.{put}
 use Rattle.slices.specs.Parts.{Bytes}
 use Rattle.image.specs.View.{Condition, Unused, Whole, View}
 use Rattle.planner.specs.Setting.{Setting}

@@ -8,7 +8,7 @@ ghost use Rattle.image.specs.Image.{recordAt, entryAt};
 ghost use Rattle.image.specs.Cluster.{imageAt};
 ghost use Rattle.protocol.specs.Recovery.{after};
 ghost use Rattle.protocol.specs.StepBytes.{afterStoreBytes};
-ghost use Rattle.image.specs.Cluster.{ImageFits};
+ghost use Rattle.image.specs.Fits.{ImageFits};
 ghost use Rattle.recovery.specs.NextStore.{storeOf, StoreFits};
 use locate::ENTRY_SIZE;
 use locate::entry_in;
