@@ -14,6 +14,7 @@ pub mod fuzz;
 pub mod generate;
 pub mod guarded;
 pub mod model;
+pub mod program;
 pub mod progress;
 pub mod property;
 pub mod proved;

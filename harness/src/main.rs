@@ -9,7 +9,7 @@ use std::process::ExitCode;
 use std::time::Duration;
 
 use harness::bench;
-use harness::code::MODEL;
+use harness::code::{Code, MODEL, PROVED};
 use harness::comparisons;
 use harness::fuzz;
 use harness::generate::example_input;
@@ -140,21 +140,33 @@ fn print_bytes(bytes: &[u8]) -> Result<(), Failure> {
         .or_else(|error| failed(format!("cannot write the output: {error}")))
 }
 
-/// Plays generated cases of every kind.
+/// Plays generated cases of every kind, on the model and on the proved code, which must go alike.
 fn check_property(arguments: &[String]) -> Result<(), Failure> {
     let [cases, seed] = flag_values(arguments, ["--cases", "--seed"])?;
-    let all = cases.saturating_mul(3);
+    let all = cases.saturating_mul(6);
     let shown = progress::show(move |done, _| format!("property: {done} of {all} cases"));
-    let agreed = property::check_agreed(MODEL, seed, cases)?;
-    let arbitrary = property::check_arbitrary(MODEL, seed, cases)?;
-    property::check_images(seed, cases)?;
+    let text = property_text(MODEL, seed, cases)?;
+    let proved = property_text(PROVED, seed, cases)?;
+    // The printing program is compared with the model's in tests/report.rs.
+    property::check_reports(MODEL, seed, cases)?;
     drop(shown);
-    let text = format!(
+    print_bytes(text.as_bytes())?;
+    if proved != text {
+        return failed(format!("the proved code goes otherwise:\n{proved}"));
+    }
+    Ok(())
+}
+
+/// What came up, if every conclusion holds.
+fn property_text(code: Code, seed: u64, cases: u64) -> Result<String, String> {
+    let agreed = property::check_agreed(code, seed, cases)?;
+    let arbitrary = property::check_arbitrary(code, seed, cases)?;
+    property::check_images(code, seed, cases)?;
+    Ok(format!(
         "agreed clusters: {cases} cases\n{agreed}\n\
          arbitrary clusters: {cases} cases\n{arbitrary}\n\
          images: {cases} cases\nall conclusions hold\n"
-    );
-    print_bytes(text.as_bytes())
+    ))
 }
 
 /// Compares as many cases as are asked for, as the tests compare fewer.
@@ -217,7 +229,7 @@ fn table(arguments: &[String]) -> Result<(), Failure> {
     no_arguments("table", arguments)?;
     let all = property::table::SETS;
     let shown = progress::show(move |done, _| format!("table: {done} of {all} sets"));
-    let table = property::table::table(MODEL.run)?;
+    let table = property::table::table(MODEL)?;
     drop(shown);
     let text = format!(
         "recovered {}\nwaiting {}\nharmed {}\n",

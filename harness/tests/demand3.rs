@@ -1,11 +1,21 @@
 //! What recovery promises, on generated clusters, with power cuts and refused calls between.
 
-use harness::code::{MODEL, PROVED};
-use harness::property::{check_agreed, check_arbitrary, check_images};
+#![deny(dead_code)]
 
-#[test]
-fn clusters_whose_logs_agreed() {
-    let coverage = check_agreed(MODEL, 1, 10_000).unwrap_or_else(|what| panic!("{what}"));
+use harness::code::{Code, MODEL, PROVED};
+use harness::on_both_sides;
+use harness::property::{check_agreed, check_arbitrary, check_images, check_reports};
+use harness::side::{self, Side};
+
+on_both_sides! {
+    clusters_whose_logs_agreed,
+    arbitrary_clusters,
+    images_of_any_bytes,
+    inputs_of_any_bytes,
+}
+
+fn clusters_whose_logs_agreed(on: Code) {
+    let coverage = check_agreed(on, 1, 10_000).unwrap_or_else(|what| panic!("{what}"));
     println!("{coverage}");
     for count in [
         coverage.ready,
@@ -24,9 +34,8 @@ fn clusters_whose_logs_agreed() {
     }
 }
 
-#[test]
-fn arbitrary_clusters() {
-    let coverage = check_arbitrary(MODEL, 2, 8_000).unwrap_or_else(|what| panic!("{what}"));
+fn arbitrary_clusters(on: Code) {
+    let coverage = check_arbitrary(on, 2, 8_000).unwrap_or_else(|what| panic!("{what}"));
     println!("{coverage}");
     for count in [
         coverage.ready,
@@ -42,9 +51,8 @@ fn arbitrary_clusters() {
     }
 }
 
-#[test]
-fn images_of_any_bytes() {
-    let coverage = check_images(3, 20_000).unwrap_or_else(|what| panic!("{what}"));
+fn images_of_any_bytes(on: Code) {
+    let coverage = check_images(on, 3, 20_000).unwrap_or_else(|what| panic!("{what}"));
     println!("{coverage:?}");
     for number in [0, 1, 2, 3, 4, 5, 6, 7, 13] {
         assert!(coverage.read[number] >= 5, "{coverage:?}");
@@ -52,29 +60,107 @@ fn images_of_any_bytes() {
     for number in 0..=10 {
         assert!(coverage.append[number] >= 5, "{coverage:?}");
     }
-    for number in [0, 1, 2, 3, 11, 12, 14] {
-        assert!(coverage.report[number] >= 5, "{coverage:?}");
-    }
     assert!(
         coverage.verdicts.iter().all(|&count| count >= 50),
         "{coverage:?}"
     );
 }
 
-/// The same lists, played on the proved planner, step and run.
+/// The proved program is started anew for each input.
+fn inputs_of_any_bytes(on: Code) {
+    let refusals = check_reports(on, 3, 1_000).unwrap_or_else(|what| panic!("{what}"));
+    println!("{refusals:?}");
+    for number in [0, 1, 2, 3, 11, 12, 14] {
+        assert!(refusals[number] >= 5, "{refusals:?}");
+    }
+}
+
+/// The same lists go alike on both sides, call by call.
 #[test]
-fn agreed_lists_by_the_proved_code() {
-    let expected = check_agreed(MODEL, 4, 3_000);
-    let coverage = check_agreed(PROVED, 4, 3_000).unwrap_or_else(|what| panic!("{what}"));
-    assert_eq!(expected.as_ref(), Ok(&coverage));
-    assert!(coverage.torn >= 50 && coverage.cut >= 50, "{coverage}");
-    assert!(coverage.spent >= 50, "{coverage}");
+fn agreed_lists_go_alike() {
+    assert_eq!(
+        check_agreed(PROVED, 4, 3_000),
+        check_agreed(MODEL, 4, 3_000)
+    );
 }
 
 #[test]
-fn arbitrary_lists_by_the_proved_code() {
-    let expected = check_arbitrary(MODEL, 5, 3_000);
-    let coverage = check_arbitrary(PROVED, 5, 3_000).unwrap_or_else(|what| panic!("{what}"));
-    assert_eq!(expected.as_ref(), Ok(&coverage));
-    assert!(coverage.refused_calls >= 50, "{coverage}");
+fn arbitrary_lists_go_alike() {
+    let proved = check_arbitrary(PROVED, 5, 3_000);
+    assert_eq!(proved, check_arbitrary(MODEL, 5, 3_000));
+}
+
+/// What the lists find of a side that is wrong.
+fn found(wrong: Side) -> String {
+    let code = Code {
+        name: "a wrong side",
+        side: wrong,
+        ..PROVED
+    };
+    check_agreed(code, 6, 1_000).expect_err("the side is wrong")
+}
+
+#[test]
+fn a_step_that_names_a_store_and_makes_none_is_found() {
+    let found = found(Side {
+        step: |cluster, n, m, leader, present, status, replica, slot, kind| {
+            let mut copy = cluster.to_vec();
+            (side::PROVED.step)(
+                &mut copy, n, m, leader, present, status, replica, slot, kind,
+            )
+        },
+        ..side::PROVED
+    });
+    assert!(found.ends_with("a step made another store"), "{found}");
+}
+
+#[test]
+fn a_run_that_counts_a_store_too_many_is_found() {
+    let found = found(Side {
+        run: |cluster, n, m, leader, present, budget, status, stores, slot| {
+            let run = side::PROVED.run;
+            let answer = run(cluster, n, m, leader, present, budget, status, stores, slot);
+            if answer == 0 && *status == 0 {
+                *stores += 1;
+            }
+            answer
+        },
+        ..side::PROVED
+    });
+    assert!(found.contains("the run counts"), "{found}");
+}
+
+#[test]
+fn a_run_that_stores_once_and_claims_the_rest_is_found() {
+    let found = found(Side {
+        run: |cluster, n, m, leader, present, budget, status, stores, slot| {
+            let budget = budget.min(1);
+            let run = side::PROVED.run;
+            let answer = run(cluster, n, m, leader, present, budget, status, stores, slot);
+            if *status == 2 {
+                *status = 0;
+            }
+            answer
+        },
+        ..side::PROVED
+    });
+    assert!(found.contains(" of seed 6 by a wrong side: "), "{found}");
+}
+
+/// The worthless planner that takes every fault of the leader for one to be cut.
+#[test]
+fn a_planner_that_never_waits_is_found() {
+    let found = found(Side {
+        plan: |cluster, n, m, leader, present, plan, rows, status, number| {
+            let planned = side::PROVED.plan;
+            let answer = planned(cluster, n, m, leader, present, plan, rows, status, number);
+            if answer == 0 && *status == 1 {
+                *status = 0;
+                *number -= 1;
+            }
+            answer
+        },
+        ..side::PROVED
+    });
+    assert!(found.contains("but the full run ends"), "{found}");
 }

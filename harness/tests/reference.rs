@@ -1,18 +1,53 @@
 //! The reference places of the paper, and the printed example byte for byte.
 
+#![deny(dead_code)]
+
+use harness::code::Code;
 use harness::generate::Cluster;
 use harness::model::planner::Reply;
 use harness::model::*;
+use harness::on_both_sides;
+
+on_both_sides! {
+    checksum_of_no_bytes,
+    checksum_of_byte_65,
+    checksum_takes_both_sums_modulo_65535,
+    record_of_epoch_1_index_1,
+    image_lengths,
+    slot_counts_0_and_65_are_refused,
+    payload_of_200_stored_and_201_refused,
+    append_at_the_last_epoch_and_one_lower,
+    bad_record_beside_an_intact_entry,
+    both_lost_is_refused,
+    blank_record_before_a_good_one_is_refused,
+    noise_beside_the_last_good_record_is_ambiguous,
+    one_more_used_slot_behind_it_makes_it_corrupt,
+    three_dont_have_one_away_truncates,
+    two_dont_have_two_away_waits,
+    two_dont_have_one_faulty_one_away_waits,
+    three_dont_have_one_intact_fetches,
+    budget_0_is_done_if_no_store_is_outstanding,
+    budget_0_is_spent_if_a_store_is_outstanding,
+    budget_0_waits_if_the_plan_waits,
+    printed_example,
+    printed_example_recovers,
+    rows_of_the_printed_example,
+    header_bytes,
+    entry_bytes,
+    one_or_two_changed_payload_bytes_are_noticed,
+    strict_columns,
+}
 
 /// Plans with buffers of the right length and answers all three results.
 fn planned(
+    on: Code,
     cluster: &Cluster,
     leader: usize,
     present: u32,
 ) -> (Result<Answer, Refusal>, Vec<u8>, Vec<ReplicaRow>) {
     let mut bytes = vec![0xee; cluster.m];
     let mut rows = vec![ReplicaRow::default(); cluster.n];
-    let answer = plan(
+    let answer = on.plan(
         &cluster.bytes,
         cluster.n,
         cluster.m,
@@ -25,10 +60,10 @@ fn planned(
 }
 
 /// Reads replica 1 and answers length, epochs and verdicts.
-fn read_first(cluster: &Cluster) -> Result<(usize, Vec<u32>, Vec<u8>), Refusal> {
+fn read_first(on: Code, cluster: &Cluster) -> Result<(usize, Vec<u32>, Vec<u8>), Refusal> {
     let mut epochs = vec![7; cluster.m];
     let mut verdicts = vec![7; cluster.m];
-    let length = read(
+    let length = on.read(
         cluster.image(1),
         1,
         cluster.n,
@@ -43,18 +78,15 @@ fn spoil(cluster: &mut Cluster, replica: usize, slot: usize) {
     cluster.entry_mut(replica, slot).fill(b'#');
 }
 
-#[test]
-fn checksum_of_no_bytes() {
-    assert_eq!(checksum(b""), 1);
+fn checksum_of_no_bytes(on: Code) {
+    assert_eq!(on.checksum(b""), 1);
 }
 
-#[test]
-fn checksum_of_byte_65() {
-    assert_eq!(checksum(b"A"), 4_325_442);
+fn checksum_of_byte_65(on: Code) {
+    assert_eq!(on.checksum(b"A"), 4_325_442);
 }
 
-#[test]
-fn checksum_takes_both_sums_modulo_65535() {
+fn checksum_takes_both_sums_modulo_65535(on: Code) {
     let mut a: u64 = 1;
     let mut b: u64 = 0;
     let bytes = [255u8; 700];
@@ -63,109 +95,112 @@ fn checksum_takes_both_sums_modulo_65535() {
         b += a;
     }
     let expected = (b % 65_535) * 65_536 + a % 65_535;
-    assert_eq!(u64::from(checksum(&bytes)), expected);
+    assert_eq!(u64::from(on.checksum(&bytes)), expected);
 }
 
-#[test]
-fn record_of_epoch_1_index_1() {
-    assert_eq!(&write_record(1, 1), b"          1          1  546505443\n");
+fn record_of_epoch_1_index_1(on: Code) {
+    assert_eq!(
+        &on.write_record(1, 1),
+        b"          1          1  546505443\n"
+    );
 }
 
-#[test]
-fn image_lengths() {
+fn image_lengths(on: Code) {
     assert_eq!(image_len(1), 302);
     assert_eq!(image_len(64), 17_564);
     let mut one = vec![0; 302];
-    assert_eq!(fresh_image(&mut one, 1, 3, 1), Ok(()));
+    assert_eq!(on.fresh_image(&mut one, 1, 3, 1), Ok(()));
     let mut most = vec![0; 17_564];
-    assert_eq!(fresh_image(&mut most, 7, 7, 64), Ok(()));
+    assert_eq!(on.fresh_image(&mut most, 7, 7, 64), Ok(()));
 }
 
-#[test]
-fn slot_counts_0_and_65_are_refused() {
+fn slot_counts_0_and_65_are_refused(on: Code) {
     let mut image = vec![1; image_len(65)];
     for m in [0, 65, usize::MAX] {
         assert_eq!(
-            fresh_image(&mut image, 1, 3, m).map_err(Refusal::number),
+            on.fresh_image(&mut image, 1, 3, m).map_err(Refusal::number),
             Err(1)
         );
     }
     assert!(image.iter().all(|&byte| byte == 1));
 }
 
-#[test]
-fn payload_of_200_stored_and_201_refused() {
+fn payload_of_200_stored_and_201_refused(on: Code) {
     let mut cluster = Cluster::fresh(3, 2);
     let bytes = [0x80; 201];
     assert_eq!(
-        append(cluster.image_mut(1), 1, 3, 2, 1, &bytes[..200]),
+        on.append(cluster.image_mut(1), 1, 3, 2, 1, &bytes[..200]),
         Ok(1)
     );
-    assert_eq!(payload(cluster.image(1), 1, 3, 2, 1), &bytes[..200]);
+    assert_eq!(on.payload(cluster.image(1), 1, 3, 2, 1), &bytes[..200]);
     let before = cluster.clone();
     assert_eq!(
-        append(cluster.image_mut(1), 1, 3, 2, 1, &bytes),
+        on.append(cluster.image_mut(1), 1, 3, 2, 1, &bytes),
         Err(Refusal::AppendPayload)
     );
     assert_eq!(cluster, before);
 }
 
-#[test]
-fn append_at_the_last_epoch_and_one_lower() {
+fn append_at_the_last_epoch_and_one_lower(on: Code) {
     let mut cluster = Cluster::fresh(3, 3);
-    assert_eq!(append(cluster.image_mut(1), 1, 3, 3, 5, b"x"), Ok(1));
-    assert_eq!(append(cluster.image_mut(1), 1, 3, 3, 5, b"y"), Ok(2));
+    assert_eq!(on.append(cluster.image_mut(1), 1, 3, 3, 5, b"x"), Ok(1));
+    assert_eq!(on.append(cluster.image_mut(1), 1, 3, 3, 5, b"y"), Ok(2));
     assert_eq!(
-        append(cluster.image_mut(1), 1, 3, 3, 4, b"z").map_err(Refusal::number),
+        on.append(cluster.image_mut(1), 1, 3, 3, 4, b"z")
+            .map_err(Refusal::number),
         Err(8)
     );
     // The largest epoch is an epoch like any other.
-    assert_eq!(append(cluster.image_mut(1), 1, 3, 3, u32::MAX, b""), Ok(3));
+    assert_eq!(
+        on.append(cluster.image_mut(1), 1, 3, 3, u32::MAX, b""),
+        Ok(3)
+    );
 }
 
-#[test]
-fn bad_record_beside_an_intact_entry() {
+fn bad_record_beside_an_intact_entry(on: Code) {
     let mut cluster = Cluster::fresh(3, 1);
     cluster.put(1, 1, 9, b"x");
     cluster.record_mut(1, 1)[0] = b'x';
-    assert_eq!(read_first(&cluster), Ok((1, vec![9], vec![2])));
+    assert_eq!(read_first(on, &cluster), Ok((1, vec![9], vec![2])));
 }
 
-#[test]
-fn both_lost_is_refused() {
+fn both_lost_is_refused(on: Code) {
     let mut cluster = Cluster::fresh(3, 1);
     cluster.put(1, 1, 9, b"x");
     cluster.record_mut(1, 1)[0] = b'x';
     spoil(&mut cluster, 1, 1);
-    assert_eq!(read_first(&cluster).map_err(Refusal::number), Err(6));
+    assert_eq!(read_first(on, &cluster).map_err(Refusal::number), Err(6));
 }
 
-#[test]
-fn blank_record_before_a_good_one_is_refused() {
+fn blank_record_before_a_good_one_is_refused(on: Code) {
     let mut cluster = Cluster::fresh(3, 2);
     cluster.put(1, 2, 1, b"x");
-    assert_eq!(read_first(&cluster).map_err(Refusal::number), Err(5));
+    assert_eq!(read_first(on, &cluster).map_err(Refusal::number), Err(5));
 }
 
-#[test]
-fn noise_beside_the_last_good_record_is_ambiguous() {
+fn noise_beside_the_last_good_record_is_ambiguous(on: Code) {
     let mut cluster = Cluster::fresh(3, 3);
     cluster.put(1, 1, 1, b"x");
     spoil(&mut cluster, 1, 1);
-    assert_eq!(read_first(&cluster), Ok((1, vec![1, 0, 0], vec![4, 0, 0])));
+    assert_eq!(
+        read_first(on, &cluster),
+        Ok((1, vec![1, 0, 0], vec![4, 0, 0]))
+    );
 }
 
-#[test]
-fn one_more_used_slot_behind_it_makes_it_corrupt() {
+fn one_more_used_slot_behind_it_makes_it_corrupt(on: Code) {
     let mut cluster = Cluster::fresh(3, 3);
     cluster.put(1, 1, 1, b"x");
     cluster.put(1, 2, 1, b"y");
     spoil(&mut cluster, 1, 1);
-    assert_eq!(read_first(&cluster), Ok((2, vec![1, 1, 0], vec![3, 1, 0])));
+    assert_eq!(
+        read_first(on, &cluster),
+        Ok((2, vec![1, 1, 0], vec![3, 1, 0]))
+    );
 }
 
 /// Five replicas, the leader's only slot faulty; `replies` are those of replicas 2 to 5.
-fn five_replicas(replies: [Option<Reply>; 4]) -> (Answer, u8) {
+fn five_replicas(on: Code, replies: [Option<Reply>; 4]) -> (Answer, u8) {
     let mut cluster = Cluster::fresh(5, 1);
     cluster.put(1, 1, 1, b"x");
     spoil(&mut cluster, 1, 1);
@@ -181,7 +216,7 @@ fn five_replicas(replies: [Option<Reply>; 4]) -> (Answer, u8) {
             spoil(&mut cluster, replica, 1);
         }
     }
-    let (answer, bytes, _) = planned(&cluster, 1, present);
+    let (answer, bytes, _) = planned(on, &cluster, 1, present);
     (answer.unwrap(), bytes[0])
 }
 
@@ -189,44 +224,71 @@ const NO: Option<Reply> = Some(Reply::DontHave);
 const FAULTY: Option<Reply> = Some(Reply::HaveFaulty);
 const YES: Option<Reply> = Some(Reply::Have);
 
-#[test]
-fn three_dont_have_one_away_truncates() {
-    assert_eq!(five_replicas([NO, NO, NO, None]), (Answer::Ready(0), 4));
-    assert_eq!(five_replicas([None, NO, NO, NO]), (Answer::Ready(0), 4));
+fn three_dont_have_one_away_truncates(on: Code) {
+    assert_eq!(five_replicas(on, [NO, NO, NO, None]), (Answer::Ready(0), 4));
+    assert_eq!(five_replicas(on, [None, NO, NO, NO]), (Answer::Ready(0), 4));
 }
 
-#[test]
-fn two_dont_have_two_away_waits() {
-    assert_eq!(five_replicas([NO, NO, None, None]), (Answer::Waiting(1), 3));
+fn two_dont_have_two_away_waits(on: Code) {
+    assert_eq!(
+        five_replicas(on, [NO, NO, None, None]),
+        (Answer::Waiting(1), 3)
+    );
 }
 
-#[test]
-fn two_dont_have_one_faulty_one_away_waits() {
+fn two_dont_have_one_faulty_one_away_waits(on: Code) {
     let replies = [NO, NO, FAULTY, None];
-    assert_eq!(five_replicas(replies), (Answer::Waiting(1), 3));
+    assert_eq!(five_replicas(on, replies), (Answer::Waiting(1), 3));
 }
 
-#[test]
-fn three_dont_have_one_intact_fetches() {
-    assert_eq!(five_replicas([NO, NO, NO, YES]), (Answer::Ready(1), 15));
-    assert_eq!(five_replicas([NO, YES, NO, YES]), (Answer::Ready(1), 13));
+fn three_dont_have_one_intact_fetches(on: Code) {
+    assert_eq!(five_replicas(on, [NO, NO, NO, YES]), (Answer::Ready(1), 15));
+    assert_eq!(
+        five_replicas(on, [NO, YES, NO, YES]),
+        (Answer::Ready(1), 13)
+    );
 }
 
-#[test]
-fn budget_0() {
-    let ends = |cluster: &mut Cluster, present| {
-        let (n, m) = (cluster.n, cluster.m);
-        let before = cluster.clone();
-        let answer = run(&mut cluster.bytes, n, m, 1, present, 0).unwrap();
-        assert_eq!((answer.stores, &*cluster), (0, &before));
-        answer.end
-    };
+/// How a run of this budget ends that makes no store.
+fn end_without_stores(on: Code, cluster: &Cluster, budget: u64) -> RunEnd {
+    let (n, m) = (cluster.n, cluster.m);
+    let mut bytes = cluster.bytes.clone();
+    let answer = on.run(&mut bytes, n, m, 1, 7, budget).unwrap();
+    assert_eq!((answer.stores, &bytes), (0, &cluster.bytes));
+    answer.end
+}
+
+fn budget_0_is_done_if_no_store_is_outstanding(on: Code) {
+    let cluster = Cluster::fresh(3, 1);
+    assert_eq!(end_without_stores(on, &cluster, 0), RunEnd::Done);
+}
+
+fn budget_0_is_spent_if_a_store_is_outstanding(on: Code) {
     let mut cluster = Cluster::fresh(3, 1);
-    assert_eq!(ends(&mut cluster, 7), RunEnd::Done);
     cluster.put(1, 1, 1, b"x");
-    assert_eq!(ends(&mut cluster, 7), RunEnd::Spent);
-    spoil(&mut cluster, 1, 1);
-    assert_eq!(ends(&mut cluster, 3), RunEnd::Waiting(1));
+    assert_eq!(end_without_stores(on, &cluster, 0), RunEnd::Spent);
+}
+
+/// Slots 3 and 4 are faulty everywhere. A record, a fetch and a lagging follower wait with them.
+fn budget_0_waits_if_the_plan_waits(on: Code) {
+    let mut cluster = Cluster::fresh(3, 5);
+    for slot in 1..=4 {
+        for replica in 1..=3 {
+            cluster.put(replica, slot, 1, b"x");
+            if slot > 2 {
+                spoil(&mut cluster, replica, slot);
+            }
+        }
+    }
+    cluster.put(1, 5, 1, b"behind");
+    cluster.record_mut(1, 1).fill(b'#');
+    spoil(&mut cluster, 1, 2);
+    let (answer, bytes, _) = planned(on, &cluster, 1, 7);
+    assert_eq!(answer, Ok(Answer::Waiting(3)));
+    assert_eq!(bytes, [2, 12, 3, 3, 1]);
+    for budget in [0, 1, u64::MAX] {
+        assert_eq!(end_without_stores(on, &cluster, budget), RunEnd::Waiting(3));
+    }
 }
 
 /// The cluster of the printed example.
@@ -239,26 +301,24 @@ fn printed_cluster() -> Cluster {
     cluster
 }
 
-#[test]
-fn printed_example() {
+fn printed_example(on: Code) {
     let mut input = b"  3  2  1   7\n".to_vec();
     input.extend(&printed_cluster().bytes);
     let expected = "   3   1   0   2\n   1          1  12\n   2          1   1\n";
-    assert_eq!(String::from_utf8(report(&input)).unwrap(), expected);
+    assert_eq!(String::from_utf8(on.report(&input)).unwrap(), expected);
     // A blank present word means all replicas.
     input[12] = b' ';
-    assert_eq!(String::from_utf8(report(&input)).unwrap(), expected);
+    assert_eq!(String::from_utf8(on.report(&input)).unwrap(), expected);
 }
 
-#[test]
-fn printed_example_recovers() {
+fn printed_example_recovers(on: Code) {
     let mut cluster = printed_cluster();
     let mut stores = Vec::new();
     while let StepAnswer::Store {
         replica,
         slot,
         kind,
-    } = step(&mut cluster.bytes, 3, 2, 1, 7).unwrap()
+    } = on.step(&mut cluster.bytes, 3, 2, 1, 7).unwrap()
     {
         stores.push((replica, slot, kind as u8));
     }
@@ -275,14 +335,13 @@ fn printed_example_recovers() {
         ]
     );
     for replica in 1..=3 {
-        assert_eq!(payload(cluster.image(replica), replica, 3, 2, 1), b"one");
-        assert_eq!(payload(cluster.image(replica), replica, 3, 2, 2), b"two");
+        assert_eq!(on.payload(cluster.image(replica), replica, 3, 2, 1), b"one");
+        assert_eq!(on.payload(cluster.image(replica), replica, 3, 2, 2), b"two");
     }
 }
 
-#[test]
-fn rows_of_the_printed_example() {
-    let (answer, bytes, rows) = planned(&printed_cluster(), 1, 7);
+fn rows_of_the_printed_example(on: Code) {
+    let (answer, bytes, rows) = planned(on, &printed_cluster(), 1, 7);
     assert_eq!(answer, Ok(Answer::Ready(2)));
     assert_eq!(bytes, [12, 1]);
     let row = |readable, length, last_epoch| ReplicaRow {
@@ -293,30 +352,27 @@ fn rows_of_the_printed_example() {
     assert_eq!(rows, [row(1, 2, 1), row(1, 1, 1), row(1, 0, 0)]);
 }
 
-#[test]
-fn header_bytes() {
-    let header = write_header(2, 3, 64);
+fn header_bytes(on: Code) {
+    let header = on.write_header(2, 3, 64);
     assert_eq!(&header[..16], b"rope  1  2  3 64");
-    let sum = checksum(&header[..16]).to_string();
+    let sum = on.checksum(&header[..16]).to_string();
     assert_eq!(&header[16..], format!("{sum:>11}\n").as_bytes());
-    assert!(header_is_good(&header, 2, 3, 64));
-    assert!(!header_is_good(&header, 1, 3, 64));
+    assert!(on.header_is_good(&header, 2, 3, 64));
+    assert!(!on.header_is_good(&header, 1, 3, 64));
 }
 
-#[test]
-fn entry_bytes() {
-    let entry = write_entry(12, 3, b"abc");
+fn entry_bytes(on: Code) {
+    let entry = on.write_entry(12, 3, b"abc");
     assert_eq!(&entry[..29], b"         12          3   3abc");
-    let sum = checksum(&entry[..29]).to_string();
+    let sum = on.checksum(&entry[..29]).to_string();
     assert_eq!(&entry[29..41], format!("{sum:>11}\n").as_bytes());
     assert!(entry[41..].iter().all(|&byte| byte == b' '));
-    assert_eq!(judge_entry(&entry, 3), EntryState::Intact(12, b"abc"));
-    assert_eq!(judge_entry(&entry, 4), EntryState::NotIntact);
+    assert_eq!(on.judge_entry(&entry, 3), EntryState::Intact(12, b"abc"));
+    assert_eq!(on.judge_entry(&entry, 4), EntryState::NotIntact);
 }
 
-#[test]
-fn one_or_two_changed_payload_bytes_are_noticed() {
-    let entry = write_entry(1, 1, &[100; 200]);
+fn one_or_two_changed_payload_bytes_are_noticed(on: Code) {
+    let entry = on.write_entry(1, 1, &[100; 200]);
     for first in 26..226 {
         for second in first..226 {
             // Opposite changes leave the first of the two sums as it was.
@@ -326,25 +382,24 @@ fn one_or_two_changed_payload_bytes_are_noticed() {
                 if second > first {
                     changed[second] = changed[second].wrapping_sub(change);
                 }
-                assert_eq!(judge_entry(&changed, 1), EntryState::NotIntact);
+                assert_eq!(on.judge_entry(&changed, 1), EntryState::NotIntact);
             }
         }
     }
 }
 
-#[test]
-fn strict_columns() {
+fn strict_columns(on: Code) {
     let mut column = [b'x'; 4];
-    write_column(&mut column, 0);
+    on.write_column(&mut column, 0);
     assert_eq!(&column, b"   0");
-    write_column(&mut column, 9999);
+    on.write_column(&mut column, 9999);
     assert_eq!(&column, b"9999");
-    assert_eq!(read_column(b"   0"), Some(0));
-    assert_eq!(read_column(b"  10"), Some(10));
+    assert_eq!(on.read_column(b"   0"), Some(0));
+    assert_eq!(on.read_column(b"  10"), Some(10));
     for wrong in [
         b"    ", b"  00", b" 01 ", b"1   ", b" 1 1", b"  +1", b"  -1", b"\t  1", b"   x",
     ] {
-        assert_eq!(read_column(wrong), None, "{wrong:?}");
+        assert_eq!(on.read_column(wrong), None, "{wrong:?}");
     }
 }
 
@@ -352,39 +407,42 @@ fn strict_columns() {
 mod ruled_out {
     use super::*;
 
-    #[test]
-    fn truncating_at_any_faulty_entry() {
+    on_both_sides! {
+        truncating_at_any_faulty_entry,
+        counting_away_replicas_as_dont_have,
+        matching_by_index_without_epoch,
+        a_later_truncation_despite_a_lower_wait,
+    }
+
+    fn truncating_at_any_faulty_entry(on: Code) {
         let mut cluster = Cluster::fresh(3, 1);
         for replica in 1..=3 {
             cluster.put(replica, 1, 1, b"x");
             spoil(&mut cluster, replica, 1);
         }
-        assert_eq!(planned(&cluster, 1, 7).0, Ok(Answer::Waiting(1)));
+        assert_eq!(planned(on, &cluster, 1, 7).0, Ok(Answer::Waiting(1)));
     }
 
-    #[test]
-    fn counting_away_replicas_as_dont_have() {
+    fn counting_away_replicas_as_dont_have(on: Code) {
         let mut cluster = Cluster::fresh(3, 1);
         cluster.put(1, 1, 1, b"x");
         spoil(&mut cluster, 1, 1);
-        assert_eq!(planned(&cluster, 1, 1).0, Ok(Answer::Waiting(1)));
-        assert_eq!(planned(&cluster, 1, 3).0, Ok(Answer::Waiting(1)));
-        assert_eq!(planned(&cluster, 1, 7).0, Ok(Answer::Ready(0)));
+        assert_eq!(planned(on, &cluster, 1, 1).0, Ok(Answer::Waiting(1)));
+        assert_eq!(planned(on, &cluster, 1, 3).0, Ok(Answer::Waiting(1)));
+        assert_eq!(planned(on, &cluster, 1, 7).0, Ok(Answer::Ready(0)));
     }
 
-    #[test]
-    fn matching_by_index_without_epoch() {
+    fn matching_by_index_without_epoch(on: Code) {
         let mut cluster = Cluster::fresh(3, 1);
         cluster.put(1, 1, 2, b"x");
         spoil(&mut cluster, 1, 1);
         cluster.put(2, 1, 1, b"other");
         cluster.put(3, 1, 3, b"other");
-        let (answer, bytes, _) = planned(&cluster, 1, 7);
+        let (answer, bytes, _) = planned(on, &cluster, 1, 7);
         assert_eq!((answer, bytes), (Ok(Answer::Ready(0)), vec![4]));
     }
 
-    #[test]
-    fn a_later_truncation_despite_a_lower_wait() {
+    fn a_later_truncation_despite_a_lower_wait(on: Code) {
         let mut cluster = Cluster::fresh(3, 3);
         for replica in 1..=3 {
             cluster.put(replica, 1, 1, b"x");
@@ -393,11 +451,11 @@ mod ruled_out {
         cluster.put(1, 2, 1, b"y");
         cluster.put(1, 3, 1, b"z");
         spoil(&mut cluster, 1, 2);
-        let (answer, bytes, _) = planned(&cluster, 1, 7);
+        let (answer, bytes, _) = planned(on, &cluster, 1, 7);
         assert_eq!((answer, bytes), (Ok(Answer::Waiting(1)), vec![3, 4, 5]));
         let before = cluster.clone();
         assert_eq!(
-            step(&mut cluster.bytes, 3, 3, 1, 7),
+            on.step(&mut cluster.bytes, 3, 3, 1, 7),
             Ok(StepAnswer::Waiting(1))
         );
         assert_eq!(cluster, before);

@@ -2,16 +2,14 @@
 
 use std::collections::BTreeSet;
 use std::fs;
-use std::io::{ErrorKind, Write};
 use std::path::{Path, PathBuf};
-use std::process::{Command, Stdio};
-use std::thread;
 use std::time::Duration;
 
 use harness::generate::{
     agreed_case, arbitrary_case, example_input, noise_report_input, Case, Cluster,
 };
 use harness::model::{cluster_len, report};
+use harness::program::{self, report_of_pieces};
 use harness::property::case_rng;
 
 const EXAMPLE_OUTPUT: &str = "   3   1   0   2\n   1          1  12\n   2          1   1\n";
@@ -21,46 +19,10 @@ fn repository() -> PathBuf {
     Path::new(env!("CARGO_MANIFEST_DIR")).join("..")
 }
 
-/// The program as the gate builds it.
-fn program() -> PathBuf {
-    let program = repository().join("target/bin/ropeplan");
-    assert!(
-        program.is_file(),
-        "{} is missing: run `rt check ropeplan` first",
-        program.display()
-    );
-    program
-}
-
-/// What the program prints when its input arrives in the given pieces, with a pause after each.
-fn printed(pieces: &[&[u8]], pause: Duration) -> Vec<u8> {
-    let mut child = Command::new(program())
-        .stdin(Stdio::piped())
-        .stdout(Stdio::piped())
-        .stderr(Stdio::piped())
-        .spawn()
-        .expect("the program starts");
-    let mut stdin = child.stdin.take().unwrap();
-    for piece in pieces {
-        match stdin.write_all(piece).and_then(|()| stdin.flush()) {
-            Ok(()) => {}
-            // The program may stop reading once it has more than it may accept.
-            Err(error) if error.kind() == ErrorKind::BrokenPipe => break,
-            Err(error) => panic!("cannot write the input: {error}"),
-        }
-        thread::sleep(pause);
-    }
-    drop(stdin);
-    let output = child.wait_with_output().unwrap();
-    assert!(output.status.success(), "{output:?}");
-    assert!(output.stderr.is_empty(), "{output:?}");
-    output.stdout
-}
-
 /// The program prints what the model prints; the answer is that.
 fn assert_report(name: &str, input: &[u8]) -> String {
     let expected = report(input);
-    let output = printed(&[input], Duration::ZERO);
+    let output = program::report(input);
     let output = String::from_utf8_lossy(&output).into_owned();
     assert_eq!(
         output,
@@ -298,14 +260,18 @@ fn input_in_small_pieces() {
         let front = size * 20;
         let mut pieces: Vec<&[u8]> = input[..front.min(input.len())].chunks(size).collect();
         pieces.push(&input[front.min(input.len())..]);
-        assert_eq!(printed(&pieces, pause), report(&input), "pieces of {size}");
+        assert_eq!(
+            report_of_pieces(&pieces, pause),
+            report(&input),
+            "pieces of {size}"
+        );
     }
     for length in [long.len(), MAX_INPUT, MAX_INPUT + 1] {
         long.resize(length, b' ');
         for size in [3000, 4096, 4097, 60_000] {
             let pieces: Vec<&[u8]> = long.chunks(size).collect();
             assert_eq!(
-                printed(&pieces, pause),
+                report_of_pieces(&pieces, pause),
                 report(&long),
                 "{length} bytes in pieces of {size}"
             );

@@ -2,11 +2,31 @@
 //!
 //! These clusters also show that the checks notice harm when there is some.
 
+#![deny(dead_code)]
+
+use harness::code::Code;
 use harness::generate::{Case, Cluster, Committed};
-use harness::model::{apply, next_store, write_entry, Next, StoreKind};
+use harness::model::{apply, StoreKind};
+use harness::on_both_sides;
 use harness::property::claims::Start;
 use harness::property::walk::walk;
 use harness::property::Coverage;
+
+on_both_sides! {
+    with_all_suppositions_nothing_is_harmed,
+    a_damaged_entry_is_not_intact_under_its_records_epoch,
+    record_and_entry_of_one_slot_are_not_both_damaged,
+    a_damaged_record_is_not_blank,
+    a_damaged_record_is_not_good,
+    only_records_of_used_slots_are_damaged,
+    logs_agreed,
+    the_leaders_log_held_it,
+    a_majority_stored_it,
+    a_torn_entry_is_not_intact_under_the_epoch,
+    a_record_store_is_all_or_nothing,
+    an_epoch_is_not_used_again_after_a_truncation,
+    only_recovery_changes_the_cluster_once_it_has_begun,
+}
 
 /// Three replicas of one slot: all present, replica 1 leads, epoch 1 committed "kept".
 fn case(cluster: &Cluster) -> Case {
@@ -29,10 +49,10 @@ fn committed(holders: u32) -> [Committed; 1] {
 }
 
 /// The first conclusion that fails, if any does.
-fn harm(cluster: &Cluster, holders: u32) -> Option<String> {
+fn harm(on: Code, cluster: &Cluster, holders: u32) -> Option<String> {
     let case = case(cluster);
     let committed = committed(holders);
-    let start = Start::new(&case, &committed);
+    let start = Start::new(on, &case, &committed);
     let mut coverage = Coverage::default();
     start
         .check_first(&mut coverage)
@@ -49,109 +69,97 @@ fn leader_faulty() -> Cluster {
     cluster
 }
 
-#[test]
-fn with_all_suppositions_nothing_is_harmed() {
-    assert_eq!(harm(&leader_faulty(), 0b011), None);
+fn with_all_suppositions_nothing_is_harmed(on: Code) {
+    assert_eq!(harm(on, &leader_faulty(), 0b011), None);
 }
 
-#[test]
-fn a_damaged_entry_is_not_intact_under_its_records_epoch() {
+fn a_damaged_entry_is_not_intact_under_its_records_epoch(on: Code) {
     let mut cluster = leader_faulty();
     cluster.put_entry(2, 1, 1, b"other");
-    assert!(harm(&cluster, 0b011).is_some());
+    assert!(harm(on, &cluster, 0b011).is_some());
 }
 
-#[test]
-fn record_and_entry_of_one_slot_are_not_both_damaged() {
+fn record_and_entry_of_one_slot_are_not_both_damaged(on: Code) {
     let mut cluster = leader_faulty();
     cluster.record_mut(2, 1).fill(b'#');
     cluster.put_entry(2, 1, 2, b"stale");
-    assert!(harm(&cluster, 0b011).is_some());
+    assert!(harm(on, &cluster, 0b011).is_some());
 }
 
-#[test]
-fn a_damaged_record_is_not_blank() {
+fn a_damaged_record_is_not_blank(on: Code) {
     let mut cluster = leader_faulty();
-    let blank = harness::model::BLANK_RECORD;
+    let blank = on.blank_record();
     cluster.record_mut(2, 1).copy_from_slice(&blank);
-    assert!(harm(&cluster, 0b011).is_some());
+    assert!(harm(on, &cluster, 0b011).is_some());
 }
 
-#[test]
-fn a_damaged_record_is_not_good() {
+fn a_damaged_record_is_not_good(on: Code) {
     let mut cluster = leader_faulty();
     cluster.put_record(2, 1, 2);
-    assert!(harm(&cluster, 0b011).is_some());
+    assert!(harm(on, &cluster, 0b011).is_some());
 }
 
-#[test]
-fn only_records_of_used_slots_are_damaged() {
+fn only_records_of_used_slots_are_damaged(on: Code) {
     let mut cluster = leader_faulty();
     cluster.put_entry(3, 1, 1, b"left behind");
-    assert_eq!(harm(&cluster, 0b011), None);
+    assert_eq!(harm(on, &cluster, 0b011), None);
     cluster.record_mut(3, 1).fill(b'#');
-    assert!(harm(&cluster, 0b011).is_some());
+    assert!(harm(on, &cluster, 0b011).is_some());
 }
 
-#[test]
-fn logs_agreed() {
+fn logs_agreed(on: Code) {
     let mut cluster = leader_faulty();
     cluster.put(3, 1, 1, b"another log");
-    assert!(harm(&cluster, 0b011).is_some());
+    assert!(harm(on, &cluster, 0b011).is_some());
 }
 
-#[test]
-fn the_leaders_log_held_it() {
+fn the_leaders_log_held_it(on: Code) {
     let mut cluster = Cluster::fresh(3, 1);
     cluster.put(2, 1, 1, b"kept");
     cluster.put(3, 1, 1, b"kept");
-    assert!(harm(&cluster, 0b110).is_some());
+    assert!(harm(on, &cluster, 0b110).is_some());
 }
 
-#[test]
-fn a_majority_stored_it() {
+fn a_majority_stored_it(on: Code) {
     let mut cluster = leader_faulty();
     cluster.entry_mut(2, 1).fill(b'#');
     // Waiting harms nothing, but without the majority the payload is truncated.
-    assert_eq!(harm(&cluster, 0b011), None);
+    assert_eq!(harm(on, &cluster, 0b011), None);
     let alone = {
         let mut cluster = Cluster::fresh(3, 1);
         cluster.put(1, 1, 1, b"kept");
         cluster.entry_mut(1, 1).fill(b'#');
         cluster
     };
-    assert!(harm(&alone, 0b001).is_some());
+    assert!(harm(on, &alone, 0b001).is_some());
 }
 
-#[test]
-fn a_torn_entry_is_not_intact_under_the_epoch() {
+fn a_torn_entry_is_not_intact_under_the_epoch(on: Code) {
     let cluster = leader_faulty();
     let case = case(&cluster);
     let committed = committed(0b011);
-    let start = Start::new(&case, &committed);
+    let start = Start::new(on, &case, &committed);
     let mut torn = cluster.clone();
     torn.entry_mut(1, 1)
-        .copy_from_slice(&write_entry(1, 1, b"torn"));
+        .copy_from_slice(&on.write_entry(1, 1, b"torn"));
     assert!(start
         .check_state(&torn.bytes, &mut Coverage::default())
         .is_err());
 }
 
-#[test]
-fn a_record_store_is_all_or_nothing() {
+fn a_record_store_is_all_or_nothing(on: Code) {
     // Replica 3 has a slot of another epoch, whose record is blanked.
     let mut cluster = leader_faulty();
     cluster.put(3, 1, 2, b"other");
     cluster.entry_mut(3, 1).fill(b'#');
-    assert_eq!(harm(&cluster, 0b011), None);
+    assert_eq!(harm(on, &cluster, 0b011), None);
     let case = case(&cluster);
     let committed = committed(0b011);
-    let start = Start::new(&case, &committed);
+    let start = Start::new(on, &case, &committed);
     let mut now = cluster.bytes.clone();
     loop {
-        let Ok(Next::Store(store)) = next_store(&now, 3, 1, 1, 7) else {
-            panic!("no record was blanked");
-        };
+        let store = start.stepped(&now).unwrap();
+        let store = store.expect("a record is blanked");
         if store.kind == StoreKind::Blank {
             // Only the epoch's last digit has been blanked so far.
             now[store.offset + 10] = b' ';
@@ -163,8 +171,7 @@ fn a_record_store_is_all_or_nothing() {
 }
 
 /// A caller that takes no new epoch after a truncation leaves what is supposed here.
-#[test]
-fn an_epoch_is_not_used_again_after_a_truncation() {
+fn an_epoch_is_not_used_again_after_a_truncation(on: Code) {
     let mut cluster = Cluster::fresh(3, 1);
     // An older payload of epoch 1 was truncated and stayed behind on replica 2.
     cluster.put_entry(2, 1, 1, b"truncated");
@@ -173,7 +180,7 @@ fn an_epoch_is_not_used_again_after_a_truncation() {
     cluster.put(3, 1, 1, b"kept");
     cluster.put_record(2, 1, 1);
     cluster.entry_mut(1, 1).fill(b'#');
-    assert!(harm(&cluster, 0b111).is_some());
+    assert!(harm(on, &cluster, 0b111).is_some());
     // Under a new epoch the entry left behind is not taken for it.
     let mut cluster = Cluster::fresh(3, 1);
     cluster.put_entry(2, 1, 2, b"truncated");
@@ -181,15 +188,14 @@ fn an_epoch_is_not_used_again_after_a_truncation() {
     cluster.put(3, 1, 1, b"kept");
     cluster.put_record(2, 1, 1);
     cluster.entry_mut(1, 1).fill(b'#');
-    assert_eq!(harm(&cluster, 0b111), None);
+    assert_eq!(harm(on, &cluster, 0b111), None);
 }
 
-#[test]
-fn only_recovery_changes_the_cluster_once_it_has_begun() {
+fn only_recovery_changes_the_cluster_once_it_has_begun(on: Code) {
     let cluster = leader_faulty();
     let case = case(&cluster);
     let committed = committed(0b011);
-    let start = Start::new(&case, &committed);
+    let start = Start::new(on, &case, &committed);
     let mut damaged = cluster.clone();
     damaged.entry_mut(2, 1).fill(b'#');
     assert!(start

@@ -1,12 +1,39 @@
 //! What a natural implementation gets wrong, and other open points as they are read here.
 
+#![deny(dead_code)]
+
+use harness::code::Code;
 use harness::generate::Cluster;
 use harness::model::*;
+use harness::on_both_sides;
 
-fn verdicts(cluster: &Cluster, replica: usize) -> Result<Vec<u8>, u8> {
+on_both_sides! {
+    a_used_slot_after_a_blank_beats_a_falling_epoch_before_it,
+    both_lost_beats_a_falling_epoch_before_it,
+    a_wrong_lent_buffer_is_found_last,
+    an_old_entry_of_the_right_epoch_is_overwritten,
+    the_last_used_slot_is_ambiguous_whatever_stands_behind_it,
+    only_the_first_unused_slot_is_partial,
+    an_empty_payload_is_a_payload,
+    the_payload_is_part_of_the_image,
+    records_that_are_bad,
+    append_compares_with_the_last_slot_even_if_it_is_faulty,
+    plan_bytes_show_everything_while_waiting,
+    a_fault_behind_the_truncation_never_waits,
+    an_unreadable_replica_is_away_and_never_written,
+    entries_stay_behind_a_truncation,
+    a_budget_of_exactly_the_outstanding_stores_ends_done,
+    order_of_a_followers_stores,
+    order_of_the_leaders_stores,
+    the_most_stores_a_run_makes,
+    a_lost_record_is_a_copy_within_reach,
+    truncated_slots_are_printed,
+}
+
+fn verdicts(on: Code, cluster: &Cluster, replica: usize) -> Result<Vec<u8>, u8> {
     let mut epochs = vec![0; cluster.m];
     let mut verdicts = vec![0; cluster.m];
-    read(
+    on.read(
         cluster.image(replica),
         replica,
         cluster.n,
@@ -18,22 +45,22 @@ fn verdicts(cluster: &Cluster, replica: usize) -> Result<Vec<u8>, u8> {
     Ok(verdicts)
 }
 
-fn planned(cluster: &Cluster, leader: usize, present: u32) -> (Answer, Vec<u8>) {
+fn planned(on: Code, cluster: &Cluster, leader: usize, present: u32) -> (Answer, Vec<u8>) {
     let mut bytes = vec![0; cluster.m];
     let mut rows = vec![ReplicaRow::default(); cluster.n];
     let (n, m) = (cluster.n, cluster.m);
-    let answer = plan(&cluster.bytes, n, m, leader, present, &mut bytes, &mut rows);
+    let answer = on.plan(&cluster.bytes, n, m, leader, present, &mut bytes, &mut rows);
     (answer.unwrap(), bytes)
 }
 
-fn stores(cluster: &mut Cluster, leader: usize, present: u32) -> Vec<(usize, usize, u8)> {
+fn stores(on: Code, cluster: &mut Cluster, leader: usize, present: u32) -> Vec<(usize, usize, u8)> {
     let (n, m) = (cluster.n, cluster.m);
     let mut made = Vec::new();
     while let StepAnswer::Store {
         replica,
         slot,
         kind,
-    } = step(&mut cluster.bytes, n, m, leader, present).unwrap()
+    } = on.step(&mut cluster.bytes, n, m, leader, present).unwrap()
     {
         made.push((replica, slot, kind as u8));
     }
@@ -41,150 +68,139 @@ fn stores(cluster: &mut Cluster, leader: usize, present: u32) -> Vec<(usize, usi
 }
 
 /// Refusals go by number over the whole image, not by slot.
-#[test]
-fn a_used_slot_after_a_blank_beats_a_falling_epoch_before_it() {
+fn a_used_slot_after_a_blank_beats_a_falling_epoch_before_it(on: Code) {
     let mut cluster = Cluster::fresh(3, 4);
     cluster.put(1, 1, 5, b"");
     cluster.put(1, 2, 4, b"");
-    assert_eq!(verdicts(&cluster, 1), Err(7));
+    assert_eq!(verdicts(on, &cluster, 1), Err(7));
     cluster.put(1, 4, 9, b"");
-    assert_eq!(verdicts(&cluster, 1), Err(5));
+    assert_eq!(verdicts(on, &cluster, 1), Err(5));
 }
 
-#[test]
-fn both_lost_beats_a_falling_epoch_before_it() {
+fn both_lost_beats_a_falling_epoch_before_it(on: Code) {
     let mut cluster = Cluster::fresh(3, 3);
     cluster.put(1, 1, 5, b"");
     cluster.put(1, 2, 4, b"");
     cluster.put_record(1, 3, 6);
     cluster.record_mut(1, 3)[33] = b' ';
-    assert_eq!(verdicts(&cluster, 1), Err(6));
+    assert_eq!(verdicts(on, &cluster, 1), Err(6));
 }
 
 /// 13 comes after everything else that applies.
-#[test]
-fn a_wrong_lent_buffer_is_found_last() {
+fn a_wrong_lent_buffer_is_found_last(on: Code) {
     let mut cluster = Cluster::fresh(3, 2);
     cluster.put(1, 1, 5, b"");
     cluster.put(1, 2, 4, b"");
-    let answer = read(cluster.image(1), 1, 3, 2, &mut [], &mut []);
+    let answer = on.read(cluster.image(1), 1, 3, 2, &mut [], &mut []);
     assert_eq!(answer, Err(Refusal::EpochFalls));
-    let answer = plan(&cluster.bytes, 3, 2, 2, 15, &mut [], &mut []);
+    let answer = on.plan(&cluster.bytes, 3, 2, 2, 15, &mut [], &mut []);
     assert_eq!(answer, Err(Refusal::Present));
-    let answer = plan(&cluster.bytes, 3, 2, 1, 7, &mut [], &mut []);
+    let answer = on.plan(&cluster.bytes, 3, 2, 1, 7, &mut [], &mut []);
     assert_eq!(answer, Err(Refusal::Leader));
-    let answer = plan(&cluster.bytes, 3, 2, 2, 7, &mut [], &mut []);
+    let answer = on.plan(&cluster.bytes, 3, 2, 2, 7, &mut [], &mut []);
     assert_eq!(answer, Err(Refusal::LentLength));
 }
 
 /// A missing slot's entry is skipped only if all 240 bytes equal the leader's.
-#[test]
-fn an_old_entry_of_the_right_epoch_is_overwritten() {
+fn an_old_entry_of_the_right_epoch_is_overwritten(on: Code) {
     let mut cluster = Cluster::fresh(3, 1);
     cluster.put(1, 1, 1, b"new");
     cluster.put_entry(2, 1, 1, b"old");
     cluster.put_entry(3, 1, 1, b"new");
     assert_eq!(
-        stores(&mut cluster, 1, 7),
+        stores(on, &mut cluster, 1, 7),
         [(2, 1, 1), (2, 1, 2), (3, 1, 2)]
     );
-    assert_eq!(payload(cluster.image(2), 2, 3, 1, 1), b"new");
+    assert_eq!(on.payload(cluster.image(2), 2, 3, 1, 1), b"new");
 }
 
-#[test]
-fn the_last_used_slot_is_ambiguous_whatever_stands_behind_it() {
+fn the_last_used_slot_is_ambiguous_whatever_stands_behind_it(on: Code) {
     let mut cluster = Cluster::fresh(3, 3);
     cluster.put(1, 1, 1, b"x");
     cluster.entry_mut(1, 1).fill(b'?');
     cluster.put_entry(1, 2, 1, b"y");
-    assert_eq!(verdicts(&cluster, 1), Ok(vec![4, 5, 0]));
+    assert_eq!(verdicts(on, &cluster, 1), Ok(vec![4, 5, 0]));
 }
 
-#[test]
-fn only_the_first_unused_slot_is_partial() {
+fn only_the_first_unused_slot_is_partial(on: Code) {
     let mut cluster = Cluster::fresh(3, 3);
     cluster.put_entry(1, 2, 1, b"y");
-    assert_eq!(verdicts(&cluster, 1), Ok(vec![0, 0, 0]));
+    assert_eq!(verdicts(on, &cluster, 1), Ok(vec![0, 0, 0]));
     cluster.entry_mut(1, 1)[239] = 0;
-    assert_eq!(verdicts(&cluster, 1), Ok(vec![5, 0, 0]));
+    assert_eq!(verdicts(on, &cluster, 1), Ok(vec![5, 0, 0]));
     for slot in 1..=3 {
         cluster.put(1, slot, 1, b"");
     }
-    assert_eq!(verdicts(&cluster, 1), Ok(vec![1, 1, 1]));
+    assert_eq!(verdicts(on, &cluster, 1), Ok(vec![1, 1, 1]));
 }
 
-#[test]
-fn an_empty_payload_is_a_payload() {
+fn an_empty_payload_is_a_payload(on: Code) {
     let mut cluster = Cluster::fresh(3, 3);
     cluster.put(1, 1, 1, b"");
     cluster.put(1, 2, 2, b"stale");
     cluster.put_entry(1, 2, 1, b"stale");
     cluster.put_entry(1, 3, 2, b"behind");
     let image = cluster.image(1);
-    let has = |slot| has_payload(image, 1, 3, 3, slot);
+    let has = |slot| on.has_payload(image, 1, 3, 3, slot);
     assert_eq!(has(1), Ok(true));
-    assert_eq!(payload(image, 1, 3, 3, 1), b"");
+    assert_eq!(on.payload(image, 1, 3, 3, 1), b"");
     for slot in [0, 2, 3, 4, usize::MAX] {
         assert_eq!(has(slot), Ok(false), "{slot}");
-        assert_eq!(payload(image, 1, 3, 3, slot), b"");
+        assert_eq!(on.payload(image, 1, 3, 3, slot), b"");
     }
-    assert_eq!(has_payload(image, 2, 3, 3, 0), Err(Refusal::Header));
-    assert_eq!(payload(image, 2, 3, 3, 1), b"");
+    assert_eq!(on.has_payload(image, 2, 3, 3, 0), Err(Refusal::Header));
+    assert_eq!(on.payload(image, 2, 3, 3, 1), b"");
 }
 
-#[test]
-fn the_payload_is_part_of_the_image() {
+fn the_payload_is_part_of_the_image(on: Code) {
     let mut cluster = Cluster::fresh(3, 2);
     cluster.put(1, 1, 1, b"x");
     cluster.put(1, 2, 1, b"payload");
     cluster.record_mut(1, 2).fill(1);
     let image = cluster.image(1);
-    let part = payload(image, 1, 3, 2, 2);
+    let part = on.payload(image, 1, 3, 2, 2);
     assert_eq!(part, b"payload");
     let start = entry_offset(2, 2) + 26;
     assert_eq!(part.as_ptr(), image[start..].as_ptr());
 }
 
-#[test]
-fn records_that_are_bad() {
-    let wrong_slot = write_record(1, 2);
-    let epoch_0 = write_record(0, 1);
-    let mut too_large = BLANK_RECORD;
-    write_column(&mut too_large[0..11], 4_294_967_296);
-    write_column(&mut too_large[11..22], 1);
-    let sum = checksum(&too_large[..22]);
-    write_column(&mut too_large[22..33], u64::from(sum));
+fn records_that_are_bad(on: Code) {
+    let wrong_slot = on.write_record(1, 2);
+    let epoch_0 = on.write_record(0, 1);
+    let mut too_large = on.blank_record();
+    on.write_column(&mut too_large[0..11], 4_294_967_296);
+    on.write_column(&mut too_large[11..22], 1);
+    let sum = on.checksum(&too_large[..22]);
+    on.write_column(&mut too_large[22..33], u64::from(sum));
     let spaces = [b' '; RECORD_LEN];
     for record in [wrong_slot, epoch_0, too_large, spaces] {
-        assert_eq!(judge_record(&record, 1), RecordState::Bad);
+        assert_eq!(on.judge_record(&record, 1), RecordState::Bad);
     }
-    assert_eq!(judge_record(&BLANK_RECORD, 1), RecordState::Blank);
+    assert_eq!(on.judge_record(&on.blank_record(), 1), RecordState::Blank);
     assert_eq!(
-        judge_record(&write_record(u32::MAX, 64), 64),
+        on.judge_record(&on.write_record(u32::MAX, 64), 64),
         RecordState::Good(u32::MAX)
     );
 }
 
-#[test]
-fn append_compares_with_the_last_slot_even_if_it_is_faulty() {
+fn append_compares_with_the_last_slot_even_if_it_is_faulty(on: Code) {
     let mut cluster = Cluster::fresh(3, 2);
     cluster.put(1, 1, 5, b"x");
     cluster.entry_mut(1, 1).fill(0);
     assert_eq!(
-        append(cluster.image_mut(1), 1, 3, 2, 4, b""),
+        on.append(cluster.image_mut(1), 1, 3, 2, 4, b""),
         Err(Refusal::AppendEpoch)
     );
     cluster.put_entry(1, 1, 6, b"x");
     cluster.record_mut(1, 1).fill(0);
     assert_eq!(
-        append(cluster.image_mut(1), 1, 3, 2, 5, b""),
+        on.append(cluster.image_mut(1), 1, 3, 2, 5, b""),
         Err(Refusal::AppendEpoch)
     );
-    assert_eq!(append(cluster.image_mut(1), 1, 3, 2, 6, b""), Ok(2));
+    assert_eq!(on.append(cluster.image_mut(1), 1, 3, 2, 6, b""), Ok(2));
 }
 
-#[test]
-fn plan_bytes_show_everything_while_waiting() {
+fn plan_bytes_show_everything_while_waiting(on: Code) {
     let mut cluster = Cluster::fresh(3, 6);
     for slot in 1..=5 {
         cluster.put(1, slot, 1, b"x");
@@ -201,13 +217,12 @@ fn plan_bytes_show_everything_while_waiting() {
     cluster.entry_mut(3, 2).fill(0);
     cluster.entry_mut(2, 3).fill(0);
     assert_eq!(
-        planned(&cluster, 1, 7),
+        planned(on, &cluster, 1, 7),
         (Answer::Waiting(2), vec![2, 3, 13, 4, 5, 0])
     );
 }
 
-#[test]
-fn a_fault_behind_the_truncation_never_waits() {
+fn a_fault_behind_the_truncation_never_waits(on: Code) {
     let mut cluster = Cluster::fresh(5, 3);
     cluster.put(1, 1, 1, b"x");
     cluster.put(1, 2, 3, b"x");
@@ -219,56 +234,52 @@ fn a_fault_behind_the_truncation_never_waits() {
     // Slot 2 alone waits: three replicas have it, all of them faulty.
     cluster.entry_mut(1, 2).fill(0);
     assert_eq!(
-        planned(&cluster, 1, 0b01111),
+        planned(on, &cluster, 1, 0b01111),
         (Answer::Waiting(2), vec![1, 3, 0])
     );
     cluster.entry_mut(1, 1).fill(0);
     assert_eq!(
-        planned(&cluster, 1, 0b01111),
+        planned(on, &cluster, 1, 0b01111),
         (Answer::Ready(0), vec![4, 5, 0])
     );
 }
 
-#[test]
-fn an_unreadable_replica_is_away_and_never_written() {
+fn an_unreadable_replica_is_away_and_never_written(on: Code) {
     let mut cluster = Cluster::fresh(3, 1);
     cluster.put(1, 1, 1, b"x");
     cluster.header_mut(2)[27] = b' ';
     let before = cluster.clone();
-    assert_eq!(stores(&mut cluster, 1, 7), [(3, 1, 1), (3, 1, 2)]);
+    assert_eq!(stores(on, &mut cluster, 1, 7), [(3, 1, 1), (3, 1, 2)]);
     assert_eq!(cluster.image(2), before.image(2));
 }
 
-#[test]
-fn entries_stay_behind_a_truncation() {
+fn entries_stay_behind_a_truncation(on: Code) {
     let mut cluster = Cluster::fresh(3, 2);
     for slot in 1..=2 {
         cluster.put(1, slot, 1, b"x");
     }
     cluster.entry_mut(1, 1).fill(b'?');
     let before = cluster.clone();
-    assert_eq!(stores(&mut cluster, 1, 7), [(1, 2, 3), (1, 1, 3)]);
-    assert_eq!(verdicts(&cluster, 1), Ok(vec![5, 0]));
+    assert_eq!(stores(on, &mut cluster, 1, 7), [(1, 2, 3), (1, 1, 3)]);
+    assert_eq!(verdicts(on, &cluster, 1), Ok(vec![5, 0]));
     assert_eq!(cluster.entry(1, 1), before.entry(1, 1));
     assert_eq!(cluster.entry(1, 2), before.entry(1, 2));
 }
 
-#[test]
-fn a_budget_of_exactly_the_outstanding_stores_ends_done() {
+fn a_budget_of_exactly_the_outstanding_stores_ends_done(on: Code) {
     let mut cluster = Cluster::fresh(3, 1);
     cluster.put(1, 1, 1, b"x");
     for (budget, end) in [(3, RunEnd::Spent), (4, RunEnd::Done), (5, RunEnd::Done)] {
         let mut copy = cluster.clone();
-        let answer = run(&mut copy.bytes, 3, 1, 1, 7, budget).unwrap();
+        let answer = on.run(&mut copy.bytes, 3, 1, 1, 7, budget).unwrap();
         assert_eq!((answer.end, answer.stores), (end, budget.min(4)));
     }
-    let answer = run(&mut cluster.bytes, 3, 1, 1, 7, u64::MAX).unwrap();
+    let answer = on.run(&mut cluster.bytes, 3, 1, 1, 7, u64::MAX).unwrap();
     assert_eq!((answer.end, answer.stores), (RunEnd::Done, 4));
 }
 
 /// A follower loses its diverging tail from the end, mends what stays, then catches up.
-#[test]
-fn order_of_a_followers_stores() {
+fn order_of_a_followers_stores(on: Code) {
     let mut cluster = Cluster::fresh(3, 6);
     for slot in 1..=5 {
         cluster.put(1, slot, 2, b"x");
@@ -285,7 +296,7 @@ fn order_of_a_followers_stores() {
     cluster.entry_mut(2, 4).fill(0);
     cluster.record_mut(2, 6).fill(0);
     assert_eq!(
-        stores(&mut cluster, 1, 3),
+        stores(on, &mut cluster, 1, 3),
         [
             (2, 6, 3),
             (2, 5, 3),
@@ -300,8 +311,7 @@ fn order_of_a_followers_stores() {
 }
 
 /// The leader is truncated, then fetches, then rewrites lost records.
-#[test]
-fn order_of_the_leaders_stores() {
+fn order_of_the_leaders_stores(on: Code) {
     let mut cluster = Cluster::fresh(3, 6);
     for slot in 1..=6 {
         cluster.put(1, slot, 1, b"x");
@@ -316,7 +326,7 @@ fn order_of_the_leaders_stores() {
     cluster.entry_mut(1, 4).fill(0);
     cluster.entry_mut(1, 5).fill(0);
     assert_eq!(
-        stores(&mut cluster, 1, 7),
+        stores(on, &mut cluster, 1, 7),
         [
             (1, 6, 3),
             (1, 5, 3),
@@ -329,8 +339,7 @@ fn order_of_the_leaders_stores() {
 }
 
 /// m x (3 x n - 2) stores are attained: the leader's records are lost, all else is replaced.
-#[test]
-fn the_most_stores_a_run_makes() {
+fn the_most_stores_a_run_makes(on: Code) {
     for (n, m) in [(3, 2), (5, 3), (7, 1)] {
         let mut cluster = Cluster::fresh(n, m);
         for slot in 1..=m {
@@ -341,25 +350,25 @@ fn the_most_stores_a_run_makes() {
             }
         }
         let present = (1 << n) - 1;
-        let answer = run(&mut cluster.bytes, n, m, 1, present, u64::MAX).unwrap();
+        let answer = on
+            .run(&mut cluster.bytes, n, m, 1, present, u64::MAX)
+            .unwrap();
         assert_eq!(answer.end, RunEnd::Done);
         assert_eq!(answer.stores, (m * (3 * n - 2)) as u64);
     }
 }
 
-#[test]
-fn a_lost_record_is_a_copy_within_reach() {
+fn a_lost_record_is_a_copy_within_reach(on: Code) {
     let mut cluster = Cluster::fresh(3, 1);
     for replica in 1..=3 {
         cluster.put(replica, 1, 1, b"x");
     }
     cluster.entry_mut(1, 1).fill(0);
     cluster.record_mut(2, 1).fill(0);
-    assert_eq!(planned(&cluster, 1, 7), (Answer::Ready(1), vec![12]));
+    assert_eq!(planned(on, &cluster, 1, 7), (Answer::Ready(1), vec![12]));
 }
 
-#[test]
-fn truncated_slots_are_printed() {
+fn truncated_slots_are_printed(on: Code) {
     let mut cluster = Cluster::fresh(3, 2);
     cluster.put(1, 1, 1, b"x");
     cluster.put(1, 2, u32::MAX, b"x");
@@ -367,5 +376,5 @@ fn truncated_slots_are_printed() {
     let mut input = b"  3  2  1    \n".to_vec();
     input.extend(&cluster.bytes);
     let expected = "   3   1   0   0\n   1          1   4\n   2 4294967295   5\n";
-    assert_eq!(String::from_utf8(report(&input)).unwrap(), expected);
+    assert_eq!(String::from_utf8(on.report(&input)).unwrap(), expected);
 }

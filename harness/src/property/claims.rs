@@ -1,20 +1,24 @@
 //! The conclusions about a recovery, each checked against the cluster it started from.
+//!
+//! Everything is planned, made and read by the code in question. The model alone says which store is
+//! outstanding: no exported call tells that without making it.
 
 use super::coverage::Coverage;
 use super::ensure;
-use crate::code::Plan;
+use crate::code::Code;
 use crate::generate::damage::intact_under;
 use crate::generate::{Case, Committed};
 use crate::model::planner::{PLAN_FETCH, PLAN_TRUNCATE, PLAN_WAIT};
 use crate::model::survey::is_present;
 use crate::model::{
-    entry_offset, image_len, image_offset, judge_entry, judge_image, next_store, plan,
-    record_offset, run, write_entry, write_record, Answer, EntryState, Log, Next, Refusal,
-    ReplicaRow, RunEnd, Verdict, ENTRY_LEN, RECORD_LEN,
+    apply, entry_offset, image_len, image_offset, next_store, record_offset, Answer, EntryState,
+    Log, Next, Refusal, ReplicaRow, RunEnd, StepAnswer, Store, StoreKind, Verdict, ENTRY_LEN,
+    RECORD_LEN,
 };
 
 /// A damaged cluster and what was found there first.
 pub struct Start<'a> {
+    pub code: Code,
     pub case: &'a Case,
     pub committed: &'a [Committed],
     /// The replicas that are present and readable; none if the planner refuses.
@@ -27,8 +31,8 @@ pub struct Start<'a> {
 }
 
 impl<'a> Start<'a> {
-    pub fn new(case: &'a Case, committed: &'a [Committed]) -> Start<'a> {
-        let (answer, plan, rows) = planned(plan, case, &case.cluster);
+    pub fn new(code: Code, case: &'a Case, committed: &'a [Committed]) -> Start<'a> {
+        let (answer, plan, rows) = planned(code, case, &case.cluster);
         let mut within_reach = 0;
         if answer.is_ok() {
             for replica in 1..=case.n {
@@ -38,8 +42,9 @@ impl<'a> Start<'a> {
             }
         }
         let mut recovered = case.cluster.clone();
-        let full = full_run(case, &mut recovered);
+        let full = full_run(code, case, &mut recovered);
         Start {
+            code,
             case,
             committed,
             within_reach,
@@ -164,8 +169,8 @@ impl<'a> Start<'a> {
         for replica in self.replicas_within_reach() {
             let record = record(&self.recovered, self.case.m, replica, slot);
             let entry = entry(&self.recovered, self.case.m, replica, slot);
-            let stored = record == write_record(epoch, slot)
-                && entry == write_entry(epoch, slot, &committed.payload);
+            let stored = record == self.code.write_record(epoch, slot)
+                && entry == self.code.write_entry(epoch, slot, &committed.payload);
             ensure(stored, || {
                 format!("slot {slot} of replica {replica} is not stored after recovery")
             })?;
@@ -196,12 +201,12 @@ impl<'a> Start<'a> {
         for committed in self.committed {
             self.check_kept(now, committed)?;
         }
-        let (answer, _, _) = planned(plan, self.case, now);
+        let (answer, _, _) = planned(self.code, self.case, now);
         ensure(answer == self.answer, || {
             format!("the planner said {:?}, now {answer:?}", self.answer)
         })?;
         let mut finished = now.to_vec();
-        let full = full_run(self.case, &mut finished);
+        let full = full_run(self.code, self.case, &mut finished);
         let end = full.map(|answer| answer.0);
         ensure(end == self.end, || {
             format!("a full run ended {:?}, now {end:?}", self.end)
@@ -246,7 +251,8 @@ impl<'a> Start<'a> {
                     format!("replica {replica} lost its intact entry at slot {slot}")
                 })?;
             }
-            if let (true, EntryState::Intact(found, payload)) = (used, judge_entry(now, slot)) {
+            let state = self.code.judge_entry(now, slot);
+            if let (true, EntryState::Intact(found, payload)) = (used, state) {
                 ensure(found != epoch || payload == committed.payload, || {
                     format!("replica {replica} has another payload at slot {slot}")
                 })?;
@@ -264,10 +270,38 @@ impl<'a> Start<'a> {
         ensure(stores <= bound, || format!("a run made {stores} stores"))
     }
 
-    /// What comes next in a cluster, under the numbers of the case.
+    /// What comes next in a cluster, under the numbers of the case, as the model says.
     pub fn next(&self, now: &[u8]) -> Result<Next, Refusal> {
         let case = self.case;
         next_store(now, case.n, case.m, case.leader, case.present)
+    }
+
+    /// The store that the next step makes, if it makes one, from the bytes that the step leaves.
+    /// The store is all that the step does.
+    pub fn stepped(&self, now: &[u8]) -> Result<Option<Store>, String> {
+        let &Case {
+            n,
+            m,
+            leader,
+            present,
+            ..
+        } = self.case;
+        let mut after = now.to_vec();
+        let mut expected = now.to_vec();
+        let made = self.code.step(&mut after, n, m, leader, present);
+        let store = match made {
+            Ok(StepAnswer::Store {
+                replica,
+                slot,
+                kind,
+            }) => Some(store_in(&after, m, replica, slot, kind)),
+            _ => None,
+        };
+        if let Some(store) = &store {
+            apply(&mut expected, store);
+        }
+        ensure(after == expected, || "a step wrote elsewhere".into())?;
+        Ok(store)
     }
 
     fn replicas_within_reach(&self) -> impl Iterator<Item = usize> + '_ {
@@ -276,20 +310,21 @@ impl<'a> Start<'a> {
 
     fn log(&self, cluster: &[u8], replica: usize) -> Result<Log, String> {
         let (n, m) = (self.case.n, self.case.m);
-        judge_image(image(cluster, m, replica), replica, n, m)
+        self.code
+            .judge_image(image(cluster, m, replica), replica, n, m)
             .map_err(|refusal| format!("replica {replica} is refused: {refusal:?}"))
     }
 }
 
 /// Plans with lent buffers of the right length. Wrong numbers get small ones.
 pub fn planned(
-    plan: Plan,
+    code: Code,
     case: &Case,
     cluster: &[u8],
 ) -> (Result<Answer, Refusal>, Vec<u8>, Vec<ReplicaRow>) {
     let mut bytes = vec![0xee; case.m.min(1000)];
     let mut rows = vec![ReplicaRow::default(); case.n.min(1000)];
-    let answer = plan(
+    let answer = code.plan(
         cluster,
         case.n,
         case.m,
@@ -302,11 +337,27 @@ pub fn planned(
 }
 
 /// A run of budget 3 x n x m: how it ends, and its count.
-pub fn full_run(case: &Case, cluster: &mut [u8]) -> Result<(RunEnd, u64), Refusal> {
+pub fn full_run(code: Code, case: &Case, cluster: &mut [u8]) -> Result<(RunEnd, u64), Refusal> {
     let budget = (case.n as u64).saturating_mul(case.m as u64);
     let budget = budget.saturating_mul(3);
-    let answer = run(cluster, case.n, case.m, case.leader, case.present, budget)?;
+    let answer = code.run(cluster, case.n, case.m, case.leader, case.present, budget)?;
     Ok((answer.end, answer.stores))
+}
+
+/// The store that a step has named, with the bytes that now stand there.
+fn store_in(after: &[u8], m: usize, replica: usize, slot: usize, kind: StoreKind) -> Store {
+    let (at, length) = match kind {
+        StoreKind::Entry => (entry_offset(m, slot), ENTRY_LEN),
+        StoreKind::Record | StoreKind::Blank => (record_offset(slot), RECORD_LEN),
+    };
+    let offset = image_offset(m, replica) + at;
+    Store {
+        replica,
+        slot,
+        kind,
+        offset,
+        bytes: after[offset..offset + length].to_vec(),
+    }
 }
 
 fn image(cluster: &[u8], m: usize, replica: usize) -> &[u8] {

@@ -1,27 +1,25 @@
-//! Reading, payloads and appending on images of any bytes.
+//! Reading, payloads and appending on images of any bytes, and printing.
 
 use super::ensure;
+use crate::code::Code;
 use crate::generate::{noise_image, noise_report_input, ImageCase, Rng};
-use crate::model::{
-    append, entry_offset, has_payload, payload, read, record_offset, report, Refusal, Verdict,
-    ENTRY_LEN, RECORD_LEN,
-};
+use crate::model::{entry_offset, record_offset, Refusal, Verdict, ENTRY_LEN, RECORD_LEN};
 
 /// How often each refusal came, by its number; 0 counts what was accepted.
+pub type Refusals = [u64; 15];
+
 #[derive(Clone, Debug, Default, PartialEq, Eq)]
 pub struct ImageCoverage {
-    pub read: [u64; 15],
-    pub append: [u64; 15],
-    pub report: [u64; 15],
+    pub read: Refusals,
+    pub append: Refusals,
     pub verdicts: [u64; 6],
 }
 
-/// One generated image, and one input of the printing program.
-pub fn check_image(rng: &mut Rng, coverage: &mut ImageCoverage) -> Result<(), String> {
+/// One generated image.
+pub fn check_image(rng: &mut Rng, code: Code, coverage: &mut ImageCoverage) -> Result<(), String> {
     let case = noise_image(rng);
-    check_read(rng, &case, coverage)?;
-    check_append(rng, &case, coverage)?;
-    check_report(rng, coverage)
+    check_read(rng, code, &case, coverage)?;
+    check_append(rng, code, &case, coverage)
 }
 
 fn number<T>(answer: &Result<T, Refusal>) -> usize {
@@ -31,7 +29,12 @@ fn number<T>(answer: &Result<T, Refusal>) -> usize {
     }
 }
 
-fn check_read(rng: &mut Rng, case: &ImageCase, coverage: &mut ImageCoverage) -> Result<(), String> {
+fn check_read(
+    rng: &mut Rng,
+    code: Code,
+    case: &ImageCase,
+    coverage: &mut ImageCoverage,
+) -> Result<(), String> {
     let ImageCase {
         replica,
         n,
@@ -45,15 +48,15 @@ fn check_read(rng: &mut Rng, case: &ImageCase, coverage: &mut ImageCoverage) -> 
     };
     let mut epochs = vec![99; lent];
     let mut verdicts = vec![99; lent];
-    let answer = read(image, *replica, *n, *m, &mut epochs, &mut verdicts);
+    let answer = code.read(image, *replica, *n, *m, &mut epochs, &mut verdicts);
     coverage.read[number(&answer)] += 1;
     let untouched = epochs.iter().all(|&epoch| epoch == 99) && verdicts.iter().all(|&v| v == 99);
     ensure(answer.is_ok() || untouched, || {
         "a refused read filled what it was lent".into()
     })?;
     for slot in [0, 1, m / 2, *m, m.wrapping_add(1)] {
-        let has = has_payload(image, *replica, *n, *m, slot);
-        let part = payload(image, *replica, *n, *m, slot);
+        let has = code.has_payload(image, *replica, *n, *m, slot);
+        let part = code.payload(image, *replica, *n, *m, slot);
         ensure(has == Ok(true) || part.is_empty(), || {
             format!("slot {slot} has no payload, yet one is given")
         })?;
@@ -78,6 +81,7 @@ fn check_read(rng: &mut Rng, case: &ImageCase, coverage: &mut ImageCoverage) -> 
 
 fn check_append(
     rng: &mut Rng,
+    code: Code,
     case: &ImageCase,
     coverage: &mut ImageCoverage,
 ) -> Result<(), String> {
@@ -86,20 +90,20 @@ fn check_append(
     let epoch = *rng.pick(&[0, 1, 2, 3, u32::MAX, u32::MAX]);
     let length = *rng.pick(&[0, 1, 7, 199, 200, 200, 201]);
     let bytes = vec![rng.byte(); length];
-    let answer = append(&mut image, replica, n, m, epoch, &bytes);
+    let answer = code.append(&mut image, replica, n, m, epoch, &bytes);
     coverage.append[number(&answer)] += 1;
     let Ok(slot) = answer else {
         return ensure(image == case.image, || "a refused append wrote".into());
     };
     let mut epochs = vec![0; m];
     let mut verdicts = vec![0; m];
-    let length = read(&image, replica, n, m, &mut epochs, &mut verdicts);
+    let length = code.read(&image, replica, n, m, &mut epochs, &mut verdicts);
     ensure(length == Ok(slot), || {
         format!("length {length:?} after {slot}")
     })?;
     let intact = verdicts[slot - 1] == Verdict::Intact as u8 && epochs[slot - 1] == epoch;
     ensure(intact, || format!("slot {slot} is not intact after append"))?;
-    let same = payload(&image, replica, n, m, slot) == bytes;
+    let same = code.payload(&image, replica, n, m, slot) == bytes;
     ensure(same, || format!("slot {slot} has another payload"))?;
     // All other bytes are as before.
     for (at, length) in [
@@ -112,9 +116,10 @@ fn check_append(
     ensure(image == case.image, || "append wrote elsewhere".into())
 }
 
-fn check_report(rng: &mut Rng, coverage: &mut ImageCoverage) -> Result<(), String> {
+/// One generated input of the printing program.
+pub fn check_report(rng: &mut Rng, code: Code, refusals: &mut Refusals) -> Result<(), String> {
     let input = noise_report_input(rng);
-    let output = report(&input);
+    let output = code.report(&input);
     ensure(output.last() == Some(&b'\n'), || {
         "no newline at the end".into()
     })?;
@@ -127,6 +132,6 @@ fn check_report(rng: &mut Rng, coverage: &mut ImageCoverage) -> Result<(), Strin
             text.trim().parse::<usize>().map_err(|_| text.to_string())?
         }
     };
-    coverage.report[number] += 1;
+    refusals[number] += 1;
     Ok(())
 }

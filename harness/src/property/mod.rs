@@ -24,11 +24,16 @@ pub fn check_agreed(code: Code, seed: u64, cases: u64) -> Result<Coverage, Strin
     for number in 0..cases {
         let mut rng = case_rng(seed, number);
         let agreed = agreed_case(&mut rng);
-        let start = Start::new(&agreed.case, &agreed.committed);
+        let start = Start::new(code, &agreed.case, &agreed.committed);
         start
             .check_first(&mut coverage)
-            .and_then(|()| play::play(&mut rng, &start, code, CALLS, &mut coverage))
-            .map_err(|what| format!("agreed case {number} of seed {seed}: {what}"))?;
+            .and_then(|()| play::play(&mut rng, &start, CALLS, &mut coverage))
+            .map_err(|what| {
+                format!(
+                    "agreed case {number} of seed {seed} by {}: {what}",
+                    code.name
+                )
+            })?;
         progress::step();
     }
     Ok(coverage)
@@ -44,40 +49,64 @@ pub fn check_arbitrary(code: Code, seed: u64, cases: u64) -> Result<Coverage, St
         } else {
             arbitrary_case(&mut rng)
         };
-        let start = Start::new(&case, &[]);
+        let start = Start::new(code, &case, &[]);
         start
             .check_first(&mut coverage)
-            .and_then(|()| play::play(&mut rng, &start, code, CALLS, &mut coverage))
-            .map_err(|what| format!("arbitrary case {number} of seed {seed}: {what}"))?;
+            .and_then(|()| play::play(&mut rng, &start, CALLS, &mut coverage))
+            .map_err(|what| {
+                format!(
+                    "arbitrary case {number} of seed {seed} by {}: {what}",
+                    code.name
+                )
+            })?;
         progress::step();
     }
     Ok(coverage)
 }
 
 /// Small clusters, all their states one after the other.
-pub fn check_small(numbers: Range<usize>) -> Result<Coverage, String> {
+pub fn check_small(code: Code, numbers: Range<usize>) -> Result<Coverage, String> {
     let mut coverage = Coverage::default();
     for number in numbers {
         let agreed = small_case(number);
-        let start = Start::new(&agreed.case, &agreed.committed);
+        let start = Start::new(code, &agreed.case, &agreed.committed);
         start
             .check_first(&mut coverage)
             .and_then(|()| walk::walk(&start, &mut coverage))
-            .map_err(|what| format!("small case {number}: {what}"))?;
+            .map_err(|what| format!("small case {number} by {}: {what}", code.name))?;
     }
     Ok(coverage)
 }
 
 /// Images of any bytes: reading, payloads and appending keep their promises.
-pub fn check_images(seed: u64, cases: u64) -> Result<images::ImageCoverage, String> {
+pub fn check_images(code: Code, seed: u64, cases: u64) -> Result<images::ImageCoverage, String> {
     let mut coverage = images::ImageCoverage::default();
     for number in 0..cases {
         let mut rng = case_rng(seed, number);
-        images::check_image(&mut rng, &mut coverage)
-            .map_err(|what| format!("image case {number} of seed {seed}: {what}"))?;
+        images::check_image(&mut rng, code, &mut coverage).map_err(|what| {
+            format!(
+                "image case {number} of seed {seed} by {}: {what}",
+                code.name
+            )
+        })?;
         progress::step();
     }
     Ok(coverage)
+}
+
+/// Inputs of any bytes: the printing program prints a plan, or a refusal alone.
+pub fn check_reports(code: Code, seed: u64, cases: u64) -> Result<images::Refusals, String> {
+    let mut refusals = images::Refusals::default();
+    for number in 0..cases {
+        let mut rng = case_rng(seed, number);
+        images::check_report(&mut rng, code, &mut refusals).map_err(|what| {
+            format!(
+                "report case {number} of seed {seed} by {}: {what}",
+                code.name
+            )
+        })?;
+    }
+    Ok(refusals)
 }
 
 /// Each case has a generator of its own, so that one can be played alone.

@@ -1,4 +1,7 @@
 //! Lists of planner, step and run calls, with power cuts and refused calls among them.
+//!
+//! A power cut inside a run is one at a store between two whole ones: what else a call's memory holds
+//! before it returns, no contract says.
 
 use super::claims::{planned, Start};
 use super::coverage::Coverage;
@@ -6,16 +9,12 @@ use super::ensure;
 use crate::code::Code;
 use crate::generate::damage::torn_entry;
 use crate::generate::{Case, Rng};
-use crate::model::{
-    apply, entry_offset, image_offset, record_offset, Next, Refusal, ReplicaRow, RunEnd,
-    StepAnswer, Store, StoreKind, ENTRY_LEN, RECORD_LEN,
-};
+use crate::model::{apply, Next, Refusal, ReplicaRow, RunEnd, StepAnswer, Store, StoreKind};
 
-/// Plays a list of calls on some code and checks every conclusion after each of them.
+/// Plays a list of calls and checks every conclusion after each of them.
 pub fn play(
     rng: &mut Rng,
     start: &Start,
-    code: Code,
     calls: usize,
     coverage: &mut Coverage,
 ) -> Result<(), String> {
@@ -23,16 +22,16 @@ pub fn play(
     for _ in 0..calls {
         let before = now.clone();
         match rng.below(10) {
-            0 => planner_call(start, code, &now)?,
-            1 | 2 => step_call(start, code, &mut now)?,
-            3 | 4 => cut_call(rng, start, code, &mut now, 0, coverage)?,
-            5 => run_call(rng, start, code, &mut now, coverage)?,
+            0 => planner_call(start, &now)?,
+            1 | 2 => step_call(start, &mut now)?,
+            3 | 4 => cut_call(rng, start, &mut now, 0, coverage)?,
+            5 => run_call(rng, start, &mut now, coverage)?,
             6 | 7 => {
                 let stores = rng.below(start.stores as usize + 1) as u64;
-                cut_call(rng, start, code, &mut now, stores, coverage)?;
+                cut_call(rng, start, &mut now, stores, coverage)?;
             }
             _ => {
-                refused_call(rng, start, code, &now)?;
+                refused_call(rng, start, &now)?;
                 coverage.refused_calls += 1;
             }
         }
@@ -44,22 +43,24 @@ pub fn play(
     start.check_state(&now, coverage)
 }
 
-fn planner_call(start: &Start, code: Code, now: &[u8]) -> Result<(), String> {
-    let (answer, _, _) = planned(code.plan, start.case, now);
+fn planner_call(start: &Start, now: &[u8]) -> Result<(), String> {
+    let (answer, _, _) = planned(start.code, start.case, now);
     ensure(answer == start.answer, || {
         format!("the planner said {:?}, now {answer:?}", start.answer)
     })
 }
 
 /// One step, compared with the store that was outstanding.
-fn step_call(start: &Start, code: Code, now: &mut [u8]) -> Result<(), String> {
+fn step_call(start: &Start, now: &mut [u8]) -> Result<(), String> {
     let case = start.case;
     let next = start.next(now);
     let mut expected = now.to_vec();
     if let Ok(Next::Store(store)) = &next {
         apply(&mut expected, store);
     }
-    let answer = (code.step)(now, case.n, case.m, case.leader, case.present);
+    let answer = start
+        .code
+        .step(now, case.n, case.m, case.leader, case.present);
     let named = next.map(|next| match next {
         Next::Done => StepAnswer::Done,
         Next::Waiting(slot) => StepAnswer::Waiting(slot),
@@ -79,11 +80,10 @@ fn step_call(start: &Start, code: Code, now: &mut [u8]) -> Result<(), String> {
 fn run_call(
     rng: &mut Rng,
     start: &Start,
-    code: Code,
     now: &mut [u8],
     coverage: &mut Coverage,
 ) -> Result<(), String> {
-    let case = start.case;
+    let (code, case) = (start.code, start.case);
     let budget = match rng.below(4) {
         0 => 0,
         1 => u64::MAX,
@@ -91,7 +91,7 @@ fn run_call(
         _ => rng.below(start.stores as usize + 2) as u64,
     };
     let mut expected = now.to_vec();
-    let answer = match (code.run)(now, case.n, case.m, case.leader, case.present, budget) {
+    let answer = match code.run(now, case.n, case.m, case.leader, case.present, budget) {
         Ok(answer) => answer,
         Err(refusal) => {
             return ensure(Err(refusal) == start.answer, || {
@@ -101,7 +101,7 @@ fn run_call(
     };
     start.check_bound(answer.stores)?;
     for _ in 0..answer.stores {
-        let made = (code.step)(&mut expected, case.n, case.m, case.leader, case.present);
+        let made = code.step(&mut expected, case.n, case.m, case.leader, case.present);
         ensure(matches!(made, Ok(StepAnswer::Store { .. })), || {
             format!("the run counts {} stores", answer.stores)
         })?;
@@ -121,7 +121,6 @@ fn run_call(
 fn cut_call(
     rng: &mut Rng,
     start: &Start,
-    code: Code,
     now: &mut [u8],
     stores: u64,
     coverage: &mut Coverage,
@@ -133,20 +132,12 @@ fn cut_call(
         present,
         ..
     } = start.case;
-    if (code.run)(now, n, m, leader, present, stores).is_err() {
+    if start.code.run(now, n, m, leader, present, stores).is_err() {
         return Ok(());
     }
-    let mut after = now.to_vec();
-    let made = (code.step)(&mut after, n, m, leader, present);
-    let Ok(StepAnswer::Store {
-        replica,
-        slot,
-        kind,
-    }) = made
-    else {
+    let Some(store) = start.stepped(now)? else {
         return Ok(());
     };
-    let store = store_in(&after, m, replica, slot, kind);
     match rng.below(6) {
         0 => coverage.cut += 1,
         1 => {
@@ -155,26 +146,7 @@ fn cut_call(
         }
         _ => cut_store(rng, now, &store, coverage),
     }
-    // The store is all that the step has done.
-    let mut whole = now.to_vec();
-    apply(&mut whole, &store);
-    ensure(whole == after, || "a step wrote elsewhere".into())
-}
-
-/// The store that a step has made, from the bytes that it left.
-fn store_in(after: &[u8], m: usize, replica: usize, slot: usize, kind: StoreKind) -> Store {
-    let (at, length) = match kind {
-        StoreKind::Entry => (entry_offset(m, slot), ENTRY_LEN),
-        StoreKind::Record | StoreKind::Blank => (record_offset(slot), RECORD_LEN),
-    };
-    let offset = image_offset(m, replica) + at;
-    Store {
-        replica,
-        slot,
-        kind,
-        offset,
-        bytes: after[offset..offset + length].to_vec(),
-    }
+    Ok(())
 }
 
 /// The power fails during a store: a record is old or new, an entry may be torn.
@@ -193,7 +165,7 @@ fn cut_store(rng: &mut Rng, now: &mut [u8], store: &Store, coverage: &mut Covera
 }
 
 /// A call with something wrong about it, which must be refused and write nothing.
-fn refused_call(rng: &mut Rng, start: &Start, code: Code, now: &[u8]) -> Result<(), String> {
+fn refused_call(rng: &mut Rng, start: &Start, now: &[u8]) -> Result<(), String> {
     let mut case = Case {
         cluster: now.to_vec(),
         ..*start.case
@@ -204,7 +176,7 @@ fn refused_call(rng: &mut Rng, start: &Start, code: Code, now: &[u8]) -> Result<
         Err(first) => first.number(),
     };
     let before = case.cluster.clone();
-    let found = refusal_of(rng, code, &mut case, number == 13)?;
+    let found = refusal_of(rng, start.code, &mut case, number == 13)?;
     ensure(found.number() == number, || {
         format!("refused by {found:?}, not {number}")
     })?;
@@ -271,8 +243,10 @@ fn refusal_of(
     let which = if lent_wrong { 0 } else { rng.below(3) };
     let refusal = match which {
         0 => refused_plan(rng, code, case, lent_wrong)?,
-        1 => (code.step)(cluster, n, m, leader, present).err(),
-        _ => (code.run)(cluster, n, m, leader, present, rng.draw() >> rng.below(64)).err(),
+        1 => code.step(cluster, n, m, leader, present).err(),
+        _ => code
+            .run(cluster, n, m, leader, present, rng.draw() >> rng.below(64))
+            .err(),
     };
     refusal.ok_or_else(|| "a wrong call is not refused".into())
 }
@@ -299,7 +273,7 @@ fn refused_plan(
     }
     let mut bytes = vec![9; slots];
     let mut rows = vec![row; replicas];
-    let answer = (code.plan)(
+    let answer = code.plan(
         &case.cluster,
         case.n,
         case.m,

@@ -1,7 +1,7 @@
 //! Table 3.4 of source document 003: four entries on three replicas, each damaged or not.
 
 use super::ensure;
-use crate::code::Run;
+use crate::code::Code;
 use crate::generate::Cluster;
 use crate::model::RunEnd;
 use crate::progress;
@@ -23,8 +23,8 @@ pub struct Table {
 }
 
 /// Tries every set of damaged entries, leader 1, all replicas present.
-pub fn table(run: Run) -> Result<Table, String> {
-    let table = table_of(run, |cluster, replica, slot| {
+pub fn table(code: Code) -> Result<Table, String> {
+    let table = table_of(code, |cluster, replica, slot| {
         cluster.entry_mut(replica, slot)[26] ^= 1
     })?;
     let possible = (0..SETS).filter(|&set| every_slot_has_a_copy(set)).count() as u64;
@@ -35,7 +35,7 @@ pub fn table(run: Run) -> Result<Table, String> {
 }
 
 /// The same with another kind of damage to one slot of one replica.
-pub fn table_of(run: Run, damage: impl Fn(&mut Cluster, usize, usize)) -> Result<Table, String> {
+pub fn table_of(code: Code, damage: impl Fn(&mut Cluster, usize, usize)) -> Result<Table, String> {
     let mut table = Table::default();
     let intact = intact_cluster();
     for set in 0..SETS {
@@ -49,7 +49,8 @@ pub fn table_of(run: Run, damage: impl Fn(&mut Cluster, usize, usize)) -> Result
         }
         let mut cluster = start.clone();
         let budget = (3 * REPLICAS * SLOTS) as u64;
-        let answer = run(&mut cluster.bytes, REPLICAS, SLOTS, 1, 7, budget)
+        let answer = code
+            .run(&mut cluster.bytes, REPLICAS, SLOTS, 1, 7, budget)
             .map_err(|refusal| format!("set {set:#x} is refused: {refusal:?}"))?;
         match answer.end {
             RunEnd::Done if cluster == intact => table.recovered += 1,

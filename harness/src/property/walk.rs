@@ -2,14 +2,14 @@
 
 use super::claims::Start;
 use super::coverage::Coverage;
-use crate::model::{apply, judge_entry, EntryState, Next, Store, StoreKind, ENTRY_LEN};
+use crate::model::{apply, EntryState, Store, StoreKind, ENTRY_LEN};
 
 /// Makes one store after the other and checks every conclusion before, during and after each.
 pub fn walk(start: &Start, coverage: &mut Coverage) -> Result<(), String> {
     let mut now = start.case.cluster.clone();
     loop {
         start.check_state(&now, coverage)?;
-        let Ok(Next::Store(store)) = start.next(&now) else {
+        let Some(store) = start.stepped(&now)? else {
             return Ok(());
         };
         if store.kind == StoreKind::Entry {
@@ -28,7 +28,7 @@ fn check_torn(
 ) -> Result<(), String> {
     let old = &now[store.offset..store.offset + ENTRY_LEN];
     for bytes in torn_kinds(old, &store.bytes) {
-        if judge_entry(&bytes, store.slot) != EntryState::NotIntact {
+        if start.code.judge_entry(&bytes, store.slot) != EntryState::NotIntact {
             continue;
         }
         let mut torn = now.to_vec();

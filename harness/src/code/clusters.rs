@@ -1,0 +1,113 @@
+//! A cluster.
+
+use super::{accepted, Code};
+use crate::model::{Answer, Refusal, ReplicaRow, RunAnswer, RunEnd, StepAnswer, StoreKind};
+use crate::proved::clusters;
+
+impl Code {
+    #[allow(clippy::too_many_arguments)]
+    pub fn plan(
+        &self,
+        cluster: &[u8],
+        n: usize,
+        m: usize,
+        leader: usize,
+        present: u32,
+        plan: &mut [u8],
+        rows: &mut [ReplicaRow],
+    ) -> Result<Answer, Refusal> {
+        let mut table: Vec<clusters::ReplicaRow> = rows.iter().map(|&row| row.into()).collect();
+        let (mut status, mut number) = (99, 0);
+        let refusal = (self.side.plan)(
+            cluster,
+            n,
+            m,
+            leader,
+            present,
+            plan,
+            &mut table,
+            &mut status,
+            &mut number,
+        );
+        for (row, filled) in rows.iter_mut().zip(table) {
+            *row = filled.into();
+        }
+        accepted(refusal)?;
+        Ok(match status {
+            0 => Answer::Ready(number),
+            1 => Answer::Waiting(number),
+            status => panic!("a plan's status {status}"),
+        })
+    }
+
+    pub fn step(
+        &self,
+        cluster: &mut [u8],
+        n: usize,
+        m: usize,
+        leader: usize,
+        present: u32,
+    ) -> Result<StepAnswer, Refusal> {
+        let (mut status, mut replica, mut slot, mut kind) = (99, 0, 0, 0);
+        accepted((self.side.step)(
+            cluster,
+            n,
+            m,
+            leader,
+            present,
+            &mut status,
+            &mut replica,
+            &mut slot,
+            &mut kind,
+        ))?;
+        Ok(match status {
+            0 => StepAnswer::Done,
+            1 => StepAnswer::Waiting(slot),
+            2 => StepAnswer::Store {
+                replica,
+                slot,
+                kind: store_kind(kind),
+            },
+            status => panic!("a step's status {status}"),
+        })
+    }
+
+    pub fn run(
+        &self,
+        cluster: &mut [u8],
+        n: usize,
+        m: usize,
+        leader: usize,
+        present: u32,
+        budget: u64,
+    ) -> Result<RunAnswer, Refusal> {
+        let (mut status, mut stores, mut slot) = (99, 0, 0);
+        accepted((self.side.run)(
+            cluster,
+            n,
+            m,
+            leader,
+            present,
+            budget,
+            &mut status,
+            &mut stores,
+            &mut slot,
+        ))?;
+        let end = match status {
+            0 => RunEnd::Done,
+            1 => RunEnd::Waiting(slot),
+            2 => RunEnd::Spent,
+            status => panic!("a run's status {status}"),
+        };
+        Ok(RunAnswer { end, stores })
+    }
+}
+
+fn store_kind(kind: u8) -> StoreKind {
+    match kind {
+        1 => StoreKind::Entry,
+        2 => StoreKind::Record,
+        3 => StoreKind::Blank,
+        kind => panic!("a store of kind {kind}"),
+    }
+}

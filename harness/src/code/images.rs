@@ -1,0 +1,111 @@
+//! One image.
+
+use super::{accepted, Code};
+use crate::model::{Log, Refusal, Verdict};
+
+/// What a number holds before a call hands it out.
+const UNSET: usize = usize::MAX;
+
+impl Code {
+    pub fn fresh_image(
+        &self,
+        image: &mut [u8],
+        replica: usize,
+        n: usize,
+        m: usize,
+    ) -> Result<(), Refusal> {
+        accepted((self.side.format)(image, replica, n, m))
+    }
+
+    pub fn append(
+        &self,
+        image: &mut [u8],
+        replica: usize,
+        n: usize,
+        m: usize,
+        epoch: u32,
+        payload: &[u8],
+    ) -> Result<usize, Refusal> {
+        let mut slot = UNSET;
+        let answer = (self.side.append)(image, replica, n, m, epoch, payload, &mut slot);
+        accepted(answer).map(|()| slot)
+    }
+
+    pub fn read(
+        &self,
+        image: &[u8],
+        replica: usize,
+        n: usize,
+        m: usize,
+        epochs: &mut [u32],
+        verdicts: &mut [u8],
+    ) -> Result<usize, Refusal> {
+        let mut length = UNSET;
+        let answer = (self.side.read)(image, replica, n, m, epochs, verdicts, &mut length);
+        accepted(answer).map(|()| length)
+    }
+
+    /// What a read says of the whole image. Wrong numbers get small buffers.
+    pub fn judge_image(
+        &self,
+        image: &[u8],
+        replica: usize,
+        n: usize,
+        m: usize,
+    ) -> Result<Log, Refusal> {
+        let mut epochs = vec![0; m.min(1000)];
+        let mut verdicts = vec![99; m.min(1000)];
+        let length = self.read(image, replica, n, m, &mut epochs, &mut verdicts)?;
+        let verdicts = verdicts.into_iter().map(verdict).collect();
+        Ok(Log {
+            length,
+            epochs,
+            verdicts,
+        })
+    }
+
+    pub fn has_payload(
+        &self,
+        image: &[u8],
+        replica: usize,
+        n: usize,
+        m: usize,
+        slot: usize,
+    ) -> Result<bool, Refusal> {
+        let mut has = 99;
+        accepted((self.side.has_payload)(
+            image, replica, n, m, slot, &mut has,
+        ))?;
+        match has {
+            0 => Ok(false),
+            1 => Ok(true),
+            has => panic!("{has} of whether there is a payload"),
+        }
+    }
+
+    /// The slot's payload as a part of the image, or the empty part.
+    pub fn payload<'a>(
+        &self,
+        image: &'a [u8],
+        replica: usize,
+        n: usize,
+        m: usize,
+        slot: usize,
+    ) -> &'a [u8] {
+        let (mut at, mut size) = (0, 0);
+        (self.side.payload)(image, replica, n, m, slot, &mut at, &mut size);
+        &image[at..at + size]
+    }
+}
+
+fn verdict(byte: u8) -> Verdict {
+    match byte {
+        0 => Verdict::Unused,
+        1 => Verdict::Intact,
+        2 => Verdict::RecordLost,
+        3 => Verdict::Corrupt,
+        4 => Verdict::Ambiguous,
+        5 => Verdict::Partial,
+        byte => panic!("a verdict {byte}"),
+    }
+}
