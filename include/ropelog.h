@@ -194,15 +194,17 @@ uint8_t rope_plan(const uint8_t *cluster, size_t cluster_len, size_t n, size_t m
 /* Works out the plan afresh and makes the first store still outstanding. Hands out a status (enum rope_status): ROPE_RECOVERED; or
  * ROPE_WAITING with the lowest waiting slot; or ROPE_OUTSTANDING with the replica, the slot and the kind (enum rope_store) of the
  * store it made. A number that goes with another status stays as it was. The store must be on the card of that replica before the
- * next step. Refusals 1 to 3, 11 and 12; for 2 only n counts. */
+ * next step: 240 bytes at ROPE_ENTRY_AT or 34 at ROPE_RECORD_AT of the card's own image, the 34 as one write, whole or not at all.
+ * Records 15, 30, 45 and 60 straddle a boundary of 512 bytes if the image begins at one: a card that writes single sectors whole may
+ * tear them, and README.md, rule 5, says what to do. Refusals 1 to 3, 11 and 12; for 2 only n counts. */
 ROPE_MUST_USE
 uint8_t rope_step(uint8_t *cluster, size_t cluster_len, size_t n, size_t m, size_t leader, uint32_t present, uint8_t *status,
                   size_t *replica, size_t *slot, uint8_t *kind);
 
 /* Makes steps while the budget of stores lasts. Hands out a status (enum rope_status): ROPE_RECOVERED or ROPE_OUTSTANDING with the
- * number of stores made, or ROPE_WAITING with the lowest waiting slot. A number that goes with another status stays as it was. The
- * stores of a run follow each other with nothing between them: on a card that takes them in another order, make steps instead.
- * Refusals as for rope_step. */
+ * number of stores made, or ROPE_WAITING with the lowest waiting slot. A number that goes with another status stays as it was. A
+ * run is for a copy in memory: what the buffer holds before the call returns is not promised, so it must not be the storage itself.
+ * Cards are written store by store, by rope_step. Refusals as for rope_step. */
 ROPE_MUST_USE
 uint8_t rope_run(uint8_t *cluster, size_t cluster_len, size_t n, size_t m, size_t leader, uint32_t present, uint64_t budget,
                  uint8_t *status, uint64_t *stores, size_t *slot);

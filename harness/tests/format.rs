@@ -125,23 +125,41 @@ fn the_command_prints_the_card() {
     assert_eq!(&input[590..590 + 576], card());
 }
 
-/// The records that lie in two sectors of 512 bytes, where the page names them.
+/// The records that lie on both sides of a boundary if the image begins so far behind one.
+fn straddling(unit: usize, start: usize) -> Vec<usize> {
+    let crosses = |slot: &usize| {
+        let first = start + record_offset(*slot);
+        first / unit != (first + RECORD_LEN - 1) / unit
+    };
+    (1..=MAX_SLOTS).filter(crosses).collect()
+}
+
 #[test]
 fn records_in_two_sectors() {
-    let straddling: Vec<usize> = (1..=MAX_SLOTS)
-        .filter(|&slot| {
-            let first = record_offset(slot);
-            first / 512 != (first + RECORD_LEN - 1) / 512
-        })
-        .collect();
-    assert_eq!(straddling, [15, 30, 45, 60]);
+    let found = straddling(512, 0);
+    assert_eq!(found, [15, 30, 45, 60]);
     let page = page().replace('\n', " ");
-    assert!(page.contains("records 15, 30, 45 and 60, at bytes"));
-    for slot in straddling {
+    for slot in found {
         let first = record_offset(slot);
         let range = format!("{} to {}", spelt(first), spelt(first + RECORD_LEN - 1));
         assert!(page.contains(&range), "{range}");
     }
+    for file in [
+        "docs/FORMAT.md",
+        "docs/DECISIONS.md",
+        "README.md",
+        "include/ropelog.h",
+    ] {
+        let text = fs::read_to_string(repository().join(file)).unwrap();
+        let words: Vec<&str> = text.split_whitespace().collect();
+        assert!(
+            words.join(" ").contains("ecords 15, 30, 45 and 60"),
+            "{file}"
+        );
+    }
+    // What README.md says of other units, and of another start of the image.
+    assert!(straddling(4096, 0).is_empty());
+    assert!((0..512).all(|start| straddling(512, start).len() >= 3));
 }
 
 /// A number with a comma before its last three digits.

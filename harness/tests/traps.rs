@@ -17,6 +17,7 @@ on_both_sides! {
     an_empty_payload_is_a_payload,
     the_payload_is_part_of_the_image,
     records_that_are_bad,
+    a_record_torn_between_two_sectors,
     append_compares_with_the_last_slot_even_if_it_is_faulty,
     plan_bytes_show_everything_while_waiting,
     a_fault_behind_the_truncation_never_waits,
@@ -181,6 +182,30 @@ fn records_that_are_bad(on: Code) {
         on.judge_record(&on.write_record(u32::MAX, 64), 64),
         RecordState::Good(u32::MAX)
     );
+}
+
+/// New bytes on one side of a boundary of 512 alone, of a record that is written or blanked.
+fn a_record_torn_between_two_sectors(on: Code) {
+    for slot in [15, 30, 45, 60] {
+        let mut whole = Cluster::fresh(3, slot);
+        for before in 1..=slot {
+            whole.put(1, before, 1_234_567_890, b"x");
+        }
+        let split = 512 - record_offset(slot) % 512;
+        let (record, blank) = (whole.record(1, slot).to_vec(), on.blank_record());
+        for torn in [
+            [&record[..split], &blank[split..]].concat(),
+            [&blank[..split], &record[split..]].concat(),
+        ] {
+            assert_eq!(on.judge_record(&torn, slot), RecordState::Bad);
+            let mut cluster = whole.clone();
+            cluster.record_mut(1, slot).copy_from_slice(&torn);
+            let read = verdicts(on, &cluster, 1).unwrap();
+            assert_eq!((read[slot - 2], read[slot - 1]), (1, 2));
+            cluster.entry_mut(1, slot).fill(0);
+            assert_eq!(verdicts(on, &cluster, 1), Err(6));
+        }
+    }
 }
 
 fn append_compares_with_the_last_slot_even_if_it_is_faulty(on: Code) {
