@@ -5,13 +5,13 @@ use mathlib.Core.Bool.{true, false}
 use mathlib.Core.List.{List, [], _∷_}
 use Rattle.image.specs.Cluster.{decode}
 use Rattle.planner.specs.Plan.{viewsIn}
-use Rattle.planner.specs.Rules.{isFaulty, have}
+use Rattle.planner.specs.Rules.{isFaulty, have, rule, isWait, end}
 use Rattle.demand3.specs.Supposed.{Supposed}
 use Rattle.demand3.specs.Before.{DamagedCluster}
 use Rattle.protocol.specs.Call.{Call, plan, step, run, named, refusalIn}
 use Rattle.demand3.specs.CallList.{Request, CallList}
 use Rattle.demand3.specs.Claim.{PartA, PartB, Waits}
-use Rattle.protocol.specs.CallResult.{callResult, recovered, spent}
+use Rattle.protocol.specs.CallResult.{callResult, planning, ready, recovered, spent}
 use Rattle.example.specs.Undamaged.{payloadA, undamagedFive, undamagedThree}
 use Rattle.example.specs.Damaged.{five, damagedCluster}
 use Rattle.example.specs.Waiting.{three, waitingCluster}
@@ -52,6 +52,12 @@ pub record Exhibit : Type 0 where
   -- so what the claim concludes holds of it
   pub always : PartA five damagedCluster lastCluster
   pub committed : PartB five damagedCluster historiesFive 0 2 payloadA lastCluster
+  -- and what it says of a copy within reach: A is damaged at the leader, replica 2 has it, and no other slot that stays waits
+  pub faulty : isFaulty (viewsIn (named five) damagedCluster 0 .condition 0) ≡ true
+  pub copy : have (named five) (viewsIn (named five) damagedCluster) 0 1 ≡ true
+  pub othersGo : (j : ℕ) → j < end (named five) (viewsIn (named five) damagedCluster) → (j ≡ 0 → ⊥)
+      → isWait (rule (named five) (viewsIn (named five) damagedCluster) j) ≡ false
+  pub isReady : callResult five (planning five) damagedCluster ≡ ready (end (named five) (viewsIn (named five) damagedCluster))
   -- the run of two is spent, the last one finds nothing to do, and from the damaged cluster a run makes eight stores
   pub spentRun : callResult five (run 2) fetchedOne ≡ spent 2
   pub lastRun : callResult five (run 45) lastStored ≡ recovered 0

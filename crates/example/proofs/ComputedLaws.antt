@@ -71,6 +71,10 @@ computed = record {
   spent-run = refl;
   last-run = refl;
   whole-run = refl;
+  first-faulty = refl;
+  copy = refl;
+  ends = refl;
+  other-slot = refl;
   go-waiting = refl;
   planned-waiting = refl;
   wait-0 = record { rec = refl; ent = refl };

@@ -9,7 +9,7 @@ use Rattle.record.specs.Meaning.{proper, improper, readEntry, Record, good, bla
 use Rattle.image.specs.View.{readRefusal}
 use Rattle.image.specs.Cluster.{imagePart, decode}
 use Rattle.planner.specs.Plan.{viewsIn, clusterRefusal}
-use Rattle.planner.specs.Rules.{isFaulty, have}
+use Rattle.planner.specs.Rules.{isFaulty, have, rule, isWait, end}
 use Rattle.protocol.specs.Store.{storeEntry, storeRecord, storeBlank}
 use Rattle.protocol.specs.StepBytes.{nextIn, stepsBytes}
 use Rattle.protocol.specs.Call.{plan, step, run, Numbers, named, refusalOf}
@@ -68,6 +68,11 @@ pub record Computed : Type 0 where
   pub spent-run : callResult five (run 2) fetchedOne ≡ spent 2
   pub last-run : callResult five (run 45) lastStored ≡ recovered 0
   pub whole-run : callResult five (run 45) damagedCluster ≡ recovered 8
+  -- the leader's first entry is faulty, replica 2 has it, and the other slot that stays does not wait
+  pub first-faulty : isFaulty (viewsIn (named five) damagedCluster 0 .condition 0) ≡ true
+  pub copy : have (named five) (viewsIn (named five) damagedCluster) 0 1 ≡ true
+  pub ends : end (named five) (viewsIn (named five) damagedCluster) ≡ 2
+  pub other-slot : isWait (rule (named five) (viewsIn (named five) damagedCluster) 1) ≡ false
   -- the cluster that waits
   pub go-waiting : clusterRefusal 3 1 1 7 waitingCluster ≡ 0
   pub planned-waiting : refusalOf three (plan 1 3) waitingCluster ≡ 0
