@@ -161,6 +161,9 @@ static void check_recovery(void) {
     CHECK(status == 77 && replica == 77 && slot == 77 && kind == 77);
     CHECK(rope_step(cluster, sizeof cluster, N, M, 1, 5, &status, &replica, &slot, &kind) == ROPE_DONE);
     CHECK(status == ROPE_WAITING && replica == 77 && slot == 1 && kind == 77);
+    CHECK(rope_run(cluster, sizeof cluster, N, M, 1, 5, 9, &status, &stores, &slot) == ROPE_DONE);
+    CHECK(status == ROPE_WAITING && stores == 0 && slot == 1);
+    stores = 77;
     CHECK(rope_step(cluster, sizeof cluster, N, M, 1, 7, &status, &replica, &slot, &kind) == ROPE_DONE);
     CHECK(status == ROPE_OUTSTANDING && replica == 1 && slot == 1 && kind == ROPE_STORE_ENTRY);
     slot = 77;

@@ -201,10 +201,10 @@ ROPE_MUST_USE
 uint8_t rope_step(uint8_t *cluster, size_t cluster_len, size_t n, size_t m, size_t leader, uint32_t present, uint8_t *status,
                   size_t *replica, size_t *slot, uint8_t *kind);
 
-/* Makes steps while the budget of stores lasts. Hands out a status (enum rope_status): ROPE_RECOVERED or ROPE_OUTSTANDING with the
- * number of stores made, or ROPE_WAITING with the lowest waiting slot. A number that goes with another status stays as it was. A
- * run is for a copy in memory: what the buffer holds before the call returns is not promised, so it must not be the storage itself.
- * Cards are written store by store, by rope_step. Refusals as for rope_step. */
+/* Makes steps while the budget of stores lasts. Hands out a status (enum rope_status) and the number of stores made, 0 if it waits;
+ * with ROPE_WAITING also the lowest waiting slot, which otherwise stays as it was. A run is for a copy in memory: what the buffer
+ * holds before the call returns is not promised, so it must not be the storage itself. Cards are written store by store, by
+ * rope_step. Refusals as for rope_step. */
 ROPE_MUST_USE
 uint8_t rope_run(uint8_t *cluster, size_t cluster_len, size_t n, size_t m, size_t leader, uint32_t present, uint64_t budget,
                  uint8_t *status, uint64_t *stores, size_t *slot);

@@ -190,7 +190,7 @@ fn one_run(fleet: &mut Fleet, present: ReplicaSet, budget: u64) -> Result<(), Re
     print!("  a run of at most {budget} stores: ");
     match answer {
         RunAnswer::Recovered { stores } => println!("made {stores}, recovered"),
-        RunAnswer::Waiting { slot } => println!("waiting for slot {slot}"),
+        RunAnswer::Waiting { slot, .. } => println!("waiting for slot {slot}"),
         RunAnswer::Spent { stores } => println!("made {stores}, more are outstanding"),
     }
     Ok(())

@@ -210,6 +210,8 @@ pub enum RunAnswer {
     Waiting {
         /// The lowest waiting slot, from 1.
         slot: usize,
+        /// How many stores the run made: 0.
+        stores: u64,
     },
     /// The whole budget is used and a store is still outstanding.
     Spent {
@@ -357,7 +359,7 @@ pub fn run(
     accepted("rope_run", refusal)?;
     Ok(match status {
         0 => RunAnswer::Recovered { stores },
-        1 => RunAnswer::Waiting { slot },
+        1 => RunAnswer::Waiting { slot, stores },
         2 => RunAnswer::Spent { stores },
         status => no_such("rope_run", status),
     })

@@ -207,7 +207,7 @@ fn waiting_writes_nothing() {
     );
     assert_eq!(
         ran(&mut cluster, present, u64::MAX),
-        RunAnswer::Waiting { slot: 2 }
+        RunAnswer::Waiting { slot: 2, stores: 0 }
     );
     assert_eq!(cluster.bytes, before);
 }

@@ -1,6 +1,6 @@
 -- A run that notes its stores: it is underway, and its survey is that of the cluster as it is now.
 use Prim.Native.Nat.{ℕ, _+_, _≤_, _<_}
-use mathlib.Core.Path.{_≡_, refl, _∙_}
+use mathlib.Core.Path.{_≡_, refl, ap, _∙_}
 use mathlib.Core.Bool.{true, false}
 use mathlib.Core.Option.{some}
 use lib.ListN.{length}
@@ -12,9 +12,10 @@ use Rattle.protocol.specs.Store.{Store, storeReplica, storeSlot}
 use Rattle.protocol.specs.Recovery.{after, isSome}
 use Rattle.protocol.specs.StepBytes.{afterStoreBytes, nextIn}
 use Rattle.protocol.specs.Call.{run, Numbers, named}
-use Rattle.protocol.specs.CallResult.{Result, recovered, runResult, callResult, callBytes}
+use Rattle.protocol.specs.CallResult.{Result, recovered, runResult, countOf, callResult, callBytes}
 use Rattle.recovery.specs.NextStore.{storeOf, StoreFits}
 use Rattle.recovery.specs.OutlookIs.{OutlookIs}
+use Rattle.recovery.specs.Answers.{counted}
 use Rattle.recovery.specs.Look.{RestBelow}
 use Rattle.recovery.specs.Note.{Noted, ReadySurvey}
 use Rattle.recovery.specs.declared.NextStore.{NextStore}
@@ -67,14 +68,15 @@ module _ (N : Numbers) {b₀ b : Bytes} {t₀ t : NextStore} {leader budget made
   pub noting-size : length b ≡ length b₀
   noting-size = underway-size N (g .underway) (g .began .0)
 
-  pub noting-recovered : isSome (storeOf t) ≡ false → (recovered made ≡ callResult N (run budget) b₀) × (b ≡ callBytes N (run budget) b₀)
+  pub noting-recovered : isSome (storeOf t) ≡ false → ((recovered made, made) ≡ counted (callResult N (run budget) b₀)) × (b ≡ callBytes N (run budget) b₀)
+  unfolding countOf
   noting-recovered h = (
-    ready-ran N b₀ {s = t₀} refl (g .began) budget (underway-recovered N (g .underway) h),
+    ap counted (ready-ran N b₀ {s = t₀} refl (g .began) budget (underway-recovered N (g .underway) h)),
     ready-run-bytes N b₀ {s = t₀} refl (g .began) budget (underway-rests N (g .underway) h),
   )
 
-  pub noting-ends : {r : Result} → budget ≤ made → r ≡ runResult made (storeOf t) → (r ≡ callResult N (run budget) b₀) × (b ≡ callBytes N (run budget) b₀)
+  pub noting-ends : {r : Result × ℕ} → budget ≤ made → r ≡ counted (runResult made (storeOf t)) → (r ≡ counted (callResult N (run budget) b₀)) × (b ≡ callBytes N (run budget) b₀)
   noting-ends h e = (
-    ready-ran N b₀ {s = t₀} refl (g .began) budget (e ∙ underway-answers N (g .underway) h),
+    e ∙ ap counted (ready-ran N b₀ {s = t₀} refl (g .began) budget (underway-answers N (g .underway) h)),
     ready-run-bytes N b₀ {s = t₀} refl (g .began) budget (underway-ends N (g .underway) h),
   )

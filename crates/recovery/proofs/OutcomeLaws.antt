@@ -17,10 +17,11 @@ use Rattle.protocol.specs.Store.{Store, storeEntry, storeRecord, storeBlank, st
 use Rattle.protocol.specs.Recovery.{after}
 use Rattle.protocol.specs.StepBytes.{afterStoreBytes, nextIn, stepsBytes, storesBytes}
 use Rattle.protocol.specs.Call.{step, run, Numbers, named, refusalIn}
-use Rattle.protocol.specs.CallResult.{Result, refused, waiting, stored, recovered, stepResult, runResult, callResult, callBytes}
+use Rattle.protocol.specs.CallResult.{Result, refused, waiting, stored, recovered, stepResult, runResult, countOf, callResult, callBytes}
 use Rattle.image.specs.Fits.{ImageFits}
 use Rattle.recovery.specs.NextStore.{storeOf, StoreFits}
 use Rattle.recovery.specs.OutlookIs.{OutlookIs}
+use Rattle.recovery.specs.Answers.{counted}
 use Rattle.recovery.specs.declared.NextStore.{NextStore}
 use Rattle.recovery.specs.declared.NextStore.the-variants.{Nothing, Entry, Record, Blank}
 use Rattle.recovery.specs.declared.Outlook.{Outlook}
@@ -116,8 +117,9 @@ module _ (N : Numbers) (b : Bytes) where
     pub refused-step-bytes : b ≡ callBytes N step b
     refused-step-bytes = sym (step-kept N b no)
 
-    pub refused-run : (j : ℕ) → refused r ≡ callResult N (run j) b
-    refused-run j = ap refused (sym (off .0)) ∙ sym (run-refused N b no j)
+    pub refused-run : (j : ℕ) → (refused r, 0) ≡ counted (callResult N (run j) b)
+    unfolding countOf
+    refused-run j = ap counted (ap refused (sym (off .0)) ∙ sym (run-refused N b no j))
 
     pub refused-run-bytes : (j : ℕ) → b ≡ callBytes N (run j) b
     refused-run-bytes j = sym (run-kept N b no j)
@@ -136,8 +138,9 @@ module _ (N : Numbers) (b : Bytes) where
     unfolding nextIn
     waiting-step-bytes = sym (step-bytes N b (at .0) ∙ steps-still (named N) 1 b (waiting-none (named N) b (pred k) (at .2)))
 
-    pub waiting-run : (j : ℕ) → waiting k ≡ callResult N (run j) b
-    waiting-run j = ap waiting from ∙ sym (still-waiting N b (at .0) (pred k) (at .2) .runs j)
+    pub waiting-run : (j : ℕ) {count : ℕ} → count ≡ 0 → (waiting k, count) ≡ counted (callResult N (run j) b)
+    unfolding countOf
+    waiting-run j e = ap (λ (x : ℕ). (waiting k, x)) e ∙ ap counted (ap waiting from ∙ sym (still-waiting N b (at .0) (pred k) (at .2) .runs j))
 
     pub waiting-run-bytes : (j : ℕ) → b ≡ callBytes N (run j) b
     waiting-run-bytes j = sym (still-waiting N b (at .0) (pred k) (at .2) .bytes j)

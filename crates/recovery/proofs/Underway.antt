@@ -12,8 +12,9 @@ use Rattle.protocol.specs.Store.{Store}
 use Rattle.protocol.specs.Recovery.{after, isSome}
 use Rattle.protocol.specs.StepBytes.{afterStoreBytes, nextIn, stepsBytes, storesBytes}
 use Rattle.protocol.specs.Call.{Numbers, named, refusalIn}
-use Rattle.protocol.specs.CallResult.{recovered, spent, runResult}
+use Rattle.protocol.specs.CallResult.{recovered, spent, runResult, countOf}
 use Rattle.recovery.specs.NextStore.{storeOf}
+use Rattle.recovery.specs.Answers.{counted}
 use Rattle.recovery.specs.declared.NextStore.{NextStore}
 use Rattle.protocol.proofs.CallLaws.{accepted}
 use Rattle.protocol.proofs.Reached.{after-run}
@@ -66,10 +67,19 @@ unfolding isSome runResult
 answer-recovered made none t = refl
 answer-recovered made (some s) t = absurd (let z : _≡_ {A = ℕ} 0 1 = cc in omega arith)
 
-pub answer-spent : (made : ℕ) (o : Option Store) → isSome o ≡ true → spent made ≡ runResult made o
+answer-spent : (made : ℕ) (o : Option Store) → isSome o ≡ true → spent made ≡ runResult made o
 unfolding isSome runResult
 answer-spent made none t = absurd (let z : _≡_ {A = ℕ} 0 1 = cc in omega arith)
 answer-spent made (some s) t = refl
+
+-- the two beside their count
+pub counted-recovered : (made : ℕ) (o : Option Store) → isSome o ≡ false → (recovered made, made) ≡ counted (runResult made o)
+unfolding countOf
+counted-recovered made o t = ap counted (answer-recovered made o t)
+
+pub counted-spent : (made : ℕ) (o : Option Store) → isSome o ≡ true → (spent made, made) ≡ counted (runResult made o)
+unfolding countOf
+counted-spent made o t = ap counted (answer-spent made o t)
 
 -- ---- the run
 

@@ -4,7 +4,7 @@ use Rattle.planner.specs.Rules.{Waiting, Ready}
 use Rattle.planner.specs.declared.PlanAnswer.{PlanAnswer}
 use Rattle.planner.specs.declared.PlanAnswer.the-variants as plan
 use Rattle.protocol.specs.Call.{Numbers}
-use Rattle.protocol.specs.CallResult.{Result, refused, waiting, ready, stored, recovered, spent}
+use Rattle.protocol.specs.CallResult.{Result, refused, waiting, ready, stored, recovered, spent, countOf}
 use Rattle.recovery.specs.declared.StepAnswer.{StepAnswer}
 use Rattle.recovery.specs.declared.StepAnswer.the-variants as step
 use Rattle.recovery.specs.declared.RunAnswer.{RunAnswer}
@@ -28,9 +28,13 @@ stepAnswerResult step.Recovered = recovered 0
 stepAnswerResult (step.Waiting k) = waiting k
 stepAnswerResult (step.Refused r) = refused r
 
--- settled or spent, after so many stores; the lowest waiting slot; the refusal
-abbrev pub runAnswerResult : RunAnswer → Result
-runAnswerResult (run.Recovered count) = recovered count
-runAnswerResult (run.Spent count) = spent count
-runAnswerResult (run.Waiting k) = waiting k
-runAnswerResult (run.Refused r) = refused r
+-- settled or spent, after so many stores; the lowest waiting slot; the refusal. Each beside the count of stores
+abbrev pub runAnswerResult : RunAnswer → Result × ℕ
+runAnswerResult (run.Recovered count) = (recovered count, count)
+runAnswerResult (run.Spent count) = (spent count, count)
+runAnswerResult (run.Waiting k count) = (waiting k, count)
+runAnswerResult (run.Refused r) = (refused r, 0)
+
+-- a result beside its count of stores: a run that waits or is refused counts 0
+abbrev pub counted : Result → Result × ℕ
+counted x = (x, countOf x)

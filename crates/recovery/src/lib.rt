@@ -41,12 +41,12 @@ pub enum StepAnswer {
     Refused(u8),
 }
 
-// A run's answer: settled, or its budget spent and a store outstanding, each with the number of stores that it made; waiting, with the
-// lowest waiting slot; or the refusal.
+// A run's answer: settled, or its budget spent and a store outstanding, or waiting, with the lowest waiting slot; each with the number of
+// stores that it made. Or the refusal.
 pub enum RunAnswer {
     Recovered(u64),
     Spent(u64),
-    Waiting(usize),
+    Waiting { slot: usize, stores: u64 },
     Refused(u8),
 }
 

@@ -19,10 +19,11 @@ use Rattle.planner.specs.declared.ReplicaRow.{ReplicaRow}
 use Rattle.planner.specs.declared.PlanAnswer.{PlanAnswer}
 use Rattle.planner.specs.declared.PlanAnswer.the-variants as plan-answer
 use Rattle.protocol.specs.Call.{plan}
-use Rattle.protocol.specs.CallResult.{Result, callResult}
-use Rattle.recovery.specs.Answers.{numbers, planAnswerResult, stepAnswerResult, runAnswerResult}
+use Rattle.protocol.specs.CallResult.{Result, refused, waiting, recovered, spent, countOf, callResult}
+use Rattle.recovery.specs.Answers.{numbers, planAnswerResult, stepAnswerResult, runAnswerResult, counted}
 use Rattle.recovery.specs.declared.StepAnswer.{StepAnswer}
 use Rattle.recovery.specs.declared.RunAnswer.{RunAnswer}
+use Rattle.recovery.specs.declared.RunAnswer.the-variants as run-answer
 use Rattle.recovery.proofs.PlanCallLaws.{plan-result}
 use Rattle.ropelog.specs.Clusters.{resultRefusal, resultStatus, resultNumber, resultReplica, resultSlot, resultKind, resultStores}
 
@@ -108,19 +109,36 @@ step-answered y after new a x g e left status replica slot kind =
       ap (λ (z : Result). resultKind z kind) q,
     )
 
+-- the count in a run's answer; a refused run has none
+abbrev storesIn : RunAnswer → ℕ → ℕ
+storesIn (run-answer.Recovered count) old = count
+storesIn (run-answer.Spent count) old = count
+storesIn (run-answer.Waiting k count) old = count
+storesIn (run-answer.Refused r) old = old
+
+run-stores : (x : RunAnswer) (y : Result) → runAnswerResult x ≡ counted y → (old : ℕ) → storesIn x old ≡ resultStores y old
+unfolding countOf
+run-stores (run-answer.Recovered count) y e old = ap (λ (z : Result × ℕ). resultStores (z .0) old) e
+run-stores (run-answer.Spent count) y e old = ap (λ (z : Result × ℕ). resultStores (z .0) old) e
+run-stores (run-answer.Waiting k count) y e old =
+    let q : waiting k ≡ y = ap (λ (z : Result × ℕ). z .0) e in
+    ap (λ (z : Result × ℕ). z .1) e ∙ ap countOf (sym q) ∙ ap (λ (z : Result). resultStores z old) q
+run-stores (run-answer.Refused r) y e old = ap (λ (z : Result × ℕ). resultStores (z .0) old) e
+
 pub run-answered :
-    (y : Result) (after new : Bytes) (a x : RunAnswer) → a ≡ x → runAnswerResult a ≡ y → after ≡ new →
+    (y : Result) (after new : Bytes) (a x : RunAnswer) → a ≡ x → runAnswerResult a ≡ counted y → after ≡ new →
     (status stores slot : ℕ) →
-    (resultRefusal (runAnswerResult x) ≡ resultRefusal y)
+    (resultRefusal (runAnswerResult x .0) ≡ resultRefusal y)
     × (after ≡ new)
-    × (resultStatus (runAnswerResult x) status ≡ resultStatus y status)
-    × (resultStores (runAnswerResult x) stores ≡ resultStores y stores)
-    × (resultSlot (runAnswerResult x) slot ≡ resultSlot y slot)
+    × (resultStatus (runAnswerResult x .0) status ≡ resultStatus y status)
+    × (storesIn x stores ≡ resultStores y stores)
+    × (resultSlot (runAnswerResult x .0) slot ≡ resultSlot y slot)
 run-answered y after new a x g e left status stores slot =
-    let q : runAnswerResult x ≡ y = ap runAnswerResult (sym g) ∙ e in (
+    let p : runAnswerResult x ≡ counted y = ap runAnswerResult (sym g) ∙ e in
+    let q : runAnswerResult x .0 ≡ y = ap (λ (z : Result × ℕ). z .0) p in (
       ap resultRefusal q,
       left,
       ap (λ (z : Result). resultStatus z status) q,
-      ap (λ (z : Result). resultStores z stores) q,
+      run-stores x y p stores,
       ap (λ (z : Result). resultSlot z slot) q,
     )

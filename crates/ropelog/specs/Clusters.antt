@@ -67,10 +67,10 @@ resultKind (stored c k kind) old = kind
 resultKind (recovered count) old = old
 resultKind (spent count) old = old
 
--- how many stores a run made
+-- of a run alone: how many stores it made, 0 if it waits
 abbrev pub resultStores : Result → ℕ → ℕ
 resultStores (refused r) old = old
-resultStores (waiting k) old = old
+resultStores (waiting k) old = 0
 resultStores (ready l) old = old
 resultStores (stored c k kind) old = old
 resultStores (recovered count) old = count

@@ -107,8 +107,8 @@ pub extern "C" fn rope_step(
     }
 }
 
-// Makes stores while the budget lasts. Hands out 0 if none is outstanding, or 2 if one is, and how many it made; or 1 and the lowest
-// waiting slot.
+// Makes stores while the budget lasts. Hands out 0 if none is outstanding, 2 if one is, or 1 and the lowest waiting slot; and how many it
+// made, 0 if it waits.
 #[no_mangle]
 pub extern "C" fn rope_run(
     cluster: &mut [u8],
@@ -138,8 +138,12 @@ pub extern "C" fn rope_run(
             *stores = spent;
             0
         }
-        recovery::RunAnswer::Waiting(waiting) => {
+        recovery::RunAnswer::Waiting {
+            slot: waiting,
+            stores: none,
+        } => {
             *status = 1;
+            *stores = none;
             *slot = waiting;
             0
         }

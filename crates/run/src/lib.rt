@@ -8,7 +8,7 @@ ghost use Rattle.protocol.specs.StepBytes.{nextIn};
 ghost use Rattle.protocol.specs.Call.{run, named};
 ghost use Rattle.protocol.specs.CallResult.{runResult, callResult, callBytes};
 ghost use Rattle.recovery.specs.NextStore.{storeOf};
-ghost use Rattle.recovery.specs.Answers.{numbers, runAnswerResult};
+ghost use Rattle.recovery.specs.Answers.{numbers, runAnswerResult, counted};
 ghost use Rattle.recovery.specs.Look.{RestBelow};
 ghost use Rattle.recovery.specs.Note.{numbersOf, ReadySurvey, SomeReadySurvey};
 use decide::open_cluster;
@@ -52,7 +52,7 @@ fn next_store(cluster: &[u8], survey: Survey, shape: Shape, c: usize) -> NextSto
 
 // Spent if a store is outstanding, else recovered.
 fn run_answer(store: NextStore, made: u64) -> RunAnswer
-    ensures { λ r. ⌜ runAnswerResult r ≡ runResult made (storeOf store) ⌝ }
+    ensures { λ r. ⌜ runAnswerResult r ≡ counted (runResult made (storeOf store)) ⌝ }
 {
     if is_outstanding(store) {
         return RunAnswer::Spent(made);
@@ -70,7 +70,7 @@ pub fn run_cluster(
     present: u32,
     budget: u64,
 ) -> RunAnswer
-    ensures answer { λ r. ⌜ runAnswerResult r ≡ callResult (numbers n m leading present) (run budget) (now (cluster .entry)) ⌝ }
+    ensures answer { λ r. ⌜ runAnswerResult r ≡ counted (callResult (numbers n m leading present) (run budget) (now (cluster .entry))) ⌝ }
     ensures bytes { λ _. ⌜ now (cluster .exit) ≡ callBytes (numbers n m leading present) (run budget) (now (cluster .entry)) ⌝ }
 {
     let opening = open_cluster(cluster, n, m, leading, present);
@@ -80,7 +80,10 @@ pub fn run_cluster(
     }
     let plan = opening.plan;
     if plan.waiting < plan.end {
-        return RunAnswer::Waiting(plan.waiting + 1);
+        return RunAnswer::Waiting {
+            slot: plan.waiting + 1,
+            stores: 0,
+        };
     }
     let leader = opening.leader;
     let shape = Shape { n, m, leader };

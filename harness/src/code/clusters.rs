@@ -81,7 +81,7 @@ impl Code {
         present: u32,
         budget: u64,
     ) -> Result<RunAnswer, Refusal> {
-        let (mut status, mut stores, mut slot) = (99, 0, 0);
+        let (mut status, mut stores, mut slot) = (99, 99, 0);
         accepted((self.side.run)(
             cluster,
             n,

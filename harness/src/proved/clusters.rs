@@ -85,8 +85,8 @@ pub fn step(
     }
 }
 
-/// Hands out 0 if no store is outstanding and 2 if one is, with the number of stores that it made; or
-/// 1 and the lowest waiting slot.
+/// Hands out 0 if no store is outstanding, 2 if one is, or 1 and the lowest waiting slot; and the
+/// number of stores that it made.
 pub fn run(
     cluster: &mut [u8],
     n: usize,

@@ -272,7 +272,7 @@ fn run(
     let ran = model::run(cluster, n, m, leader, present, budget);
     answer(ran, |RunAnswer { end, stores: made }| match end {
         RunEnd::Done => (*status, *stores) = (0, made),
-        RunEnd::Waiting(waiting) => (*status, *slot) = (1, waiting),
+        RunEnd::Waiting(waiting) => (*status, *stores, *slot) = (1, made, waiting),
         RunEnd::Spent => (*status, *stores) = (2, made),
     })
 }

@@ -49,7 +49,7 @@ returns-2 c =
     let e = sym (o .0) ∙ t in
     let w = o .1 t in
     let i = waits N b e (w .survey-is) (w .plan-is) {slot = c .before .before .before .before .before .open-cluster .result .plan .waiting + 1} (omega arith) (omega arith) in
-    (waiting-run N b refl i (a .budget), waiting-run-bytes N b refl i (a .budget))
+    (waiting-run N b refl i (a .budget) (omega arith), waiting-run-bytes N b refl i (a .budget))
 
 first-store-requires : tie.Need-first-store-requires Inv-loop μ-loop
 first-store-requires c κs =
