@@ -62,8 +62,9 @@ static void check_headers_and_records(void) {
     memset(record, '#', sizeof record);
     CHECK(rope_write_header(header, sizeof header, 2, 5, 64) == ROPE_DONE);
     CHECK(memcmp(header, "rope  1  2  5 64", 16) == 0);
-    CHECK(rope_is_header(header, sizeof header, 2, 5, 64) == 1);
-    CHECK(rope_is_header(header, sizeof header, 5, 2, 64) == 0);
+    CHECK(rope_judge_header(header, sizeof header, 2, 5, 64) == ROPE_HEADER_GOOD);
+    CHECK(rope_judge_header(header, sizeof header, 5, 2, 64) == ROPE_HEADER_OTHER);
+    CHECK(rope_judge_header(header, 27, 2, 5, 64) == ROPE_HEADER_OTHER);
     CHECK(rope_write_record(record, 33, 7, 3) == ROPE_REFUSED_BUFFER_LENGTH);
     CHECK(all_are(record, sizeof record, '#'));
     CHECK(rope_judge_record(record, sizeof record, 3, &epoch) == ROPE_RECORD_BAD && epoch == 77);
@@ -106,9 +107,12 @@ static void check_image(void) {
     CHECK(rope_read(image, sizeof image, REPLICA, N, M, epochs, M, verdicts, M, &length) == ROPE_DONE && length == 2);
     CHECK(epochs[0] == 7 && epochs[1] == 9);
     CHECK(verdicts[0] == ROPE_INTACT && verdicts[1] == ROPE_AMBIGUOUS);
-    CHECK(rope_payload(image, sizeof image, REPLICA, N, M, 2, &at, &size) == 0 && at == 77 && size == 77);
-    CHECK(rope_payload(image, sizeof image, REPLICA, N, M, 1, &at, &size) == 1 && size == 4);
-    CHECK(at == ROPE_ENTRY_AT(M, 1) + 26 && memcmp(image + at, "wire", 4) == 0);
+    rope_payload(image, sizeof image, REPLICA, N, M, 2, &at, &size);
+    CHECK(at == 0 && size == 0);
+    rope_payload(image, sizeof image, REPLICA, N, M, 1, &at, &size);
+    CHECK(at == ROPE_ENTRY_AT(M, 1) + 26 && size == 4 && memcmp(image + at, "wire", 4) == 0);
+    rope_payload(image, sizeof image, REPLICA + 1, N, M, 1, &at, &size);
+    CHECK(at == 0 && size == 0);
     CHECK(rope_has_payload(image, sizeof image, REPLICA, N, M, 1, &has) == ROPE_DONE && has == 1);
     CHECK(rope_has_payload(image, sizeof image, REPLICA, N, M, 2, &has) == ROPE_DONE && has == 0);
     CHECK(rope_has_payload(image, sizeof image, REPLICA + 1, N, M, 1, &has) == ROPE_REFUSED_HEADER && has == 0);

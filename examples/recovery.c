@@ -193,18 +193,26 @@ static void append_again(void) {
            memcmp(before, cluster, sizeof cluster) == 0 ? "no byte changed" : "bytes changed");
 }
 
+/* Whether a replica has a payload at a slot; a refused image has none. */
+static int has_payload(size_t replica, size_t slot) {
+    uint8_t has = 0;
+    return rope_has_payload(image_of(replica), ROPE_IMAGE_SIZE(M), replica, N, M, slot, &has) == ROPE_DONE && has == 1;
+}
+
 /* Prints each payload of the leader, and how many replicas have it too. */
 static void print_log(void) {
     size_t replica, slot;
     printf("\nThe log at the end:\n");
     for (slot = 1; slot <= M; slot++) {
         size_t at = 0, size = 0, their_at = 0, their_size = 0, holders = 0;
-        if (!rope_payload(image_of(LEADER), ROPE_IMAGE_SIZE(M), LEADER, N, M, slot, &at, &size)) {
+        if (!has_payload(LEADER, slot)) {
             continue;
         }
+        rope_payload(image_of(LEADER), ROPE_IMAGE_SIZE(M), LEADER, N, M, slot, &at, &size);
         for (replica = 1; replica <= N; replica++) {
-            if (rope_payload(image_of(replica), ROPE_IMAGE_SIZE(M), replica, N, M, slot, &their_at, &their_size) &&
-                their_size == size && memcmp(image_of(replica) + their_at, image_of(LEADER) + at, size) == 0) {
+            rope_payload(image_of(replica), ROPE_IMAGE_SIZE(M), replica, N, M, slot, &their_at, &their_size);
+            if (has_payload(replica, slot) && their_size == size &&
+                memcmp(image_of(replica) + their_at, image_of(LEADER) + at, size) == 0) {
                 holders++;
             }
         }

@@ -5,9 +5,12 @@
  * has record k (its epoch and index) and entry k (its epoch, index and payload). A slot is used if its record is not blank. The log's
  * length is the number of used slots. A cluster's buffer is n images end to end, all with the same m, replica 1 first.
  *
- * Refusals. Unless its comment says otherwise, a function returns 0 (ROPE_DONE) or the number of a refusal (enum rope_refusal). If
- * several refusals apply, the lowest number is returned. A refused call changes nothing: no byte of a lent buffer, no row, no number
- * behind a pointer. Any number and any buffer content may be passed; nothing has to be checked before a call.
+ * Refusals. A function that can be refused returns 0 (ROPE_DONE) or the number of a refusal (enum rope_refusal). If several refusals
+ * apply, the lowest number is returned. A refused call changes nothing: no byte of a lent buffer, no row, no number behind a pointer.
+ * Any number and any buffer content may be passed; nothing has to be checked before a call. Four functions return a code of their own,
+ * which is no refusal and of which 0 is the good one: rope_read_column (enum rope_column), rope_judge_header (enum rope_header),
+ * rope_judge_record (enum rope_record) and rope_judge_entry (enum rope_entry). rope_checksum returns the checksum. rope_payload and
+ * rope_write_number return nothing.
  *
  * Buffers. A buffer crosses as two arguments, its address and then its length, which counts elements (bytes, uint32_t or rows). A
  * number that is handed out crosses as an address. The caller owes five things:
@@ -45,10 +48,10 @@ typedef char rope_needs_64_bit_sizes[sizeof(size_t) == 8 ? 1 : -1];
 /* ---- Version ------------------------------------------------------------------------------------------------------------------ */
 
 /* CHANGELOG.md says what a version promises. */
-#define ROPE_VERSION_MAJOR 1
+#define ROPE_VERSION_MAJOR 2
 #define ROPE_VERSION_MINOR 0
 #define ROPE_VERSION_PATCH 0
-#define ROPE_VERSION "1.0.0"
+#define ROPE_VERSION "2.0.0"
 
 /* ---- Sizes, in bytes ---------------------------------------------------------------------------------------------------------- */
 
@@ -175,11 +178,10 @@ uint8_t rope_read(const uint8_t *image, size_t image_len, size_t replica, size_t
 ROPE_MUST_USE
 uint8_t rope_has_payload(const uint8_t *image, size_t image_len, size_t replica, size_t n, size_t m, size_t slot, uint8_t *has);
 
-/* Returns 1 if the image is not refused and the slot has a payload, else 0: this is no refusal's number. With 1 it hands out where the
- * payload begins in the image, and how many bytes it has; with 0 both numbers stay as they were. */
-ROPE_MUST_USE
-uint8_t rope_payload(const uint8_t *image, size_t image_len, size_t replica, size_t n, size_t m, size_t slot, size_t *at,
-                     size_t *size);
+/* Hands out the slot's payload as a part of the image: the offset where it begins, and how many bytes it has. If the slot has none, or
+ * the image is refused, it is the empty part: offset 0, size 0. Returns nothing; whether there is a payload, and the refusals, are
+ * rope_has_payload's to say. */
+void rope_payload(const uint8_t *image, size_t image_len, size_t replica, size_t n, size_t m, size_t slot, size_t *at, size_t *size);
 
 /* ---- A cluster ---------------------------------------------------------------------------------------------------------------- */
 
@@ -244,8 +246,15 @@ uint8_t rope_write_entry(uint8_t *entry, size_t entry_len, uint32_t epoch, uint3
 ROPE_MUST_USE
 uint8_t rope_write_fresh_entry(uint8_t *entry, size_t entry_len);
 
-/* Returns 1 if the bytes are the header that is written for this replica, n and m, else 0. */
-uint8_t rope_is_header(const uint8_t *header, size_t header_len, size_t replica, size_t n, size_t m);
+/* What rope_judge_header returns. */
+enum rope_header {
+    ROPE_HEADER_GOOD = 0, /* what is written for this replica, n and m */
+    ROPE_HEADER_OTHER = 1 /* other bytes, or another length */
+};
+
+/* Judges the header of a replica, n and m. Returns enum rope_header. */
+ROPE_MUST_USE
+uint8_t rope_judge_header(const uint8_t *header, size_t header_len, size_t replica, size_t n, size_t m);
 
 /* What rope_judge_record returns. */
 enum rope_record {

@@ -2,8 +2,8 @@
 //! back. It prints `../examples/recovery.out`; `../examples/recovery.c` is the same in C.
 
 use ropelog::{
-    append, format, payload, plan, read, run, step, Epoch, Geometry, PlanAnswer, Refusal, Replica,
-    ReplicaSet, RunAnswer, StepAnswer, RECORD_LEN,
+    append, format, has_payload, payload, plan, read, run, step, Epoch, Geometry, PlanAnswer,
+    Refusal, Replica, ReplicaSet, RunAnswer, StepAnswer, RECORD_LEN,
 };
 
 /// A cluster in memory, with the replica that leads it.
@@ -255,15 +255,17 @@ fn append_again(fleet: &mut Fleet) -> Result<(), Refusal> {
 /// Prints each payload of the leader, and how many replicas have it too.
 fn print_log(fleet: &Fleet) {
     println!("\nThe log at the end:");
+    let has = |replica, slot| has_payload(fleet.image(replica), fleet.geometry, replica, slot);
     let at = |replica, slot| payload(fleet.image(replica), fleet.geometry, replica, slot);
     for slot in 1..=fleet.geometry.slot_count() {
-        let Some(reading) = at(fleet.leader, slot) else {
+        if has(fleet.leader, slot) != Ok(true) {
             continue;
-        };
+        }
+        let reading = at(fleet.leader, slot);
         let holders = fleet
             .geometry
             .replicas()
-            .filter(|&replica| at(replica, slot) == Some(reading))
+            .filter(|&replica| has(replica, slot) == Ok(true) && at(replica, slot) == reading)
             .count();
         let text = String::from_utf8_lossy(reading);
         println!("  slot {slot}, on {holders} replicas: {text}");

@@ -53,7 +53,7 @@ extern "C" {
         slot: usize,
         at: *mut usize,
         size: *mut usize,
-    ) -> u8;
+    );
 
     pub fn rope_plan(
         cluster: *const u8,
@@ -110,7 +110,13 @@ extern "C" {
         payload_len: usize,
     ) -> u8;
     pub fn rope_write_fresh_entry(entry: *mut u8, len: usize) -> u8;
-    pub fn rope_is_header(header: *const u8, len: usize, replica: usize, n: usize, m: usize) -> u8;
+    pub fn rope_judge_header(
+        header: *const u8,
+        len: usize,
+        replica: usize,
+        n: usize,
+        m: usize,
+    ) -> u8;
     pub fn rope_judge_record(record: *const u8, len: usize, index: u32, epoch: *mut u32) -> u8;
     pub fn rope_judge_entry(
         entry: *const u8,

@@ -214,13 +214,13 @@ pub fn has_payload(
     Ok(has == 1)
 }
 
-/// The payload of a slot, counted from 1, as a part of the image. There is none if the slot is not
-/// whole or the image is refused; [`has_payload`] tells the two apart.
-pub fn payload(image: &[u8], geometry: Geometry, replica: Replica, slot: usize) -> Option<&[u8]> {
+/// The payload of a slot, counted from 1, as a part of the image: the empty part if the slot is not
+/// whole or the image is refused. [`has_payload`] tells these and an empty payload apart.
+pub fn payload(image: &[u8], geometry: Geometry, replica: Replica, slot: usize) -> &[u8] {
     let (n, m) = (geometry.replica_count(), geometry.slot_count());
     let (mut at, mut size) = (0, 0);
     // SAFETY: the slice and the numbers are lent for the call, and none overlaps another.
-    let found = unsafe {
+    unsafe {
         exported::rope_payload(
             image.as_ptr(),
             image.len(),
@@ -230,11 +230,7 @@ pub fn payload(image: &[u8], geometry: Geometry, replica: Replica, slot: usize) 
             slot,
             &mut at,
             &mut size,
-        )
-    };
-    match found {
-        0 => None,
-        1 => Some(&image[at..at + size]),
-        number => no_such("rope_payload", number),
+        );
     }
+    &image[at..at + size]
 }

@@ -25,7 +25,7 @@
 //! let plan = plan(&cluster, geometry, leader, geometry.all_present())?;
 //! assert_eq!(plan.answer(), PlanAnswer::Ready { length: 1 });
 //! let image = &cluster[geometry.image_range(leader)];
-//! assert_eq!(payload(image, geometry, leader, 1), Some(&b"metre 1204, wire broken"[..]));
+//! assert_eq!(payload(image, geometry, leader, 1), b"metre 1204, wire broken");
 //! # Ok::<(), ropelog::Refusal>(())
 //! ```
 //!

@@ -141,10 +141,10 @@ pub fn write_fresh_entry(entry: &mut [u8; ENTRY_LEN]) {
 /// Whether these are the bytes of the header of this replica of n, with m slots.
 pub fn is_header(header: &[u8], replica: usize, n: usize, m: usize) -> bool {
     // SAFETY: the slice is lent for the call.
-    match unsafe { exported::rope_is_header(header.as_ptr(), header.len(), replica, n, m) } {
-        0 => false,
-        1 => true,
-        number => no_such("rope_is_header", number),
+    match unsafe { exported::rope_judge_header(header.as_ptr(), header.len(), replica, n, m) } {
+        0 => true,
+        1 => false,
+        number => no_such("rope_judge_header", number),
     }
 }
 

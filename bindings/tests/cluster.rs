@@ -157,7 +157,7 @@ fn steps_in_order() {
         assert_eq!(log.length(), 2);
         assert_eq!(log.slot(1).unwrap().verdict, Verdict::Intact);
         let found = payload(image, cluster.geometry, replica, 2);
-        assert_eq!(found, Some(&b"two"[..]));
+        assert_eq!(found, b"two");
     }
 }
 

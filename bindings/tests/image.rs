@@ -13,7 +13,7 @@ fn assert_refused(image: &[u8], geometry: Geometry, replica: Replica, refusal: R
     assert_eq!(read(image, geometry, replica), Err(refusal));
     for slot in 0..4 {
         assert_eq!(has_payload(image, geometry, replica, slot), Err(refusal));
-        assert_eq!(payload(image, geometry, replica, slot), None);
+        assert_eq!(payload(image, geometry, replica, slot), b"");
     }
     let mut lent = image.to_vec();
     let late = append(&mut lent, geometry, replica, epoch(u32::MAX), b"late");
@@ -79,7 +79,7 @@ fn appended_and_read_back() {
         assert_eq!(state.verdict, Verdict::Intact);
         assert_eq!(state.epoch, Some(epoch(at as u32 / 10 + 1)));
         let found = payload(cluster.image(3), geometry, replica, at + 1);
-        assert_eq!(found, Some(&expected[..]));
+        assert_eq!(found, expected);
     }
 }
 
@@ -89,10 +89,10 @@ fn an_empty_payload_is_a_payload() {
     cluster.append(&[1], 1, b"");
     let (geometry, replica) = (cluster.geometry, cluster.replica(1));
     let image = cluster.image(1);
-    assert_eq!(payload(image, geometry, replica, 1), Some(&b""[..]));
+    assert_eq!(payload(image, geometry, replica, 1), b"");
     assert_eq!(has_payload(image, geometry, replica, 1), Ok(true));
     for slot in [0, 2, 3, usize::MAX] {
-        assert_eq!(payload(image, geometry, replica, slot), None);
+        assert_eq!(payload(image, geometry, replica, slot), b"");
         assert_eq!(has_payload(image, geometry, replica, slot), Ok(false));
     }
 }
@@ -116,11 +116,11 @@ fn verdicts_of_damage() {
     ];
     assert_eq!(verdicts(&cluster, 1), expected);
     let (geometry, replica) = (cluster.geometry, cluster.replica(1));
-    for (slot, expected) in [(1, None), (2, Some(&b"two"[..])), (3, None), (4, None)] {
+    for (slot, expected) in [(1, &b""[..]), (2, b"two"), (3, b""), (4, b"")] {
         let image = cluster.image(1);
         assert_eq!(payload(image, geometry, replica, slot), expected);
         let has = has_payload(image, geometry, replica, slot);
-        assert_eq!(has, Ok(expected.is_some()));
+        assert_eq!(has, Ok(!expected.is_empty()));
     }
 }
 

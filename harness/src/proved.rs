@@ -119,10 +119,10 @@ pub fn write_fresh_entry(entry: &mut [u8]) -> Written {
 pub fn is_header(header: &[u8], replica: usize, n: usize, m: usize) -> bool {
     let (pointer, len) = (header.as_ptr(), header.len());
     // SAFETY: the slice is lent for the call.
-    match unsafe { exported::rope_is_header(pointer, len, replica, n, m) } {
-        0 => false,
-        1 => true,
-        code => no_such("rope_is_header", code),
+    match unsafe { exported::rope_judge_header(pointer, len, replica, n, m) } {
+        0 => true,
+        1 => false,
+        code => no_such("rope_judge_header", code),
     }
 }
 

@@ -33,7 +33,7 @@ pub struct Side {
     pub append: Append,
     pub read: Read,
     pub has_payload: fn(&[u8], usize, usize, usize, usize, &mut u8) -> u8,
-    pub payload: fn(&[u8], usize, usize, usize, usize, &mut usize, &mut usize) -> bool,
+    pub payload: fn(&[u8], usize, usize, usize, usize, &mut usize, &mut usize),
     /// The cluster, n, m, the leader and the present word, as in every call about a cluster.
     pub plan: Plan,
     pub step: Step,

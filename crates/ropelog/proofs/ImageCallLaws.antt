@@ -1,24 +1,21 @@
 -- The two ends of every call about an image: the answer, with what is handed out, or the refusal, and nothing is.
-use Prim.Native.Nat.{ℕ, suc, _+_, _-_}
+use Prim.Native.Nat.{ℕ, suc, _-_}
 use mathlib.Core.Path.{_≡_, refl, sym, ap, _∙_}
-use mathlib.Core.Bool.{Bool, true, false, cond, _&&_}
+use mathlib.Core.Bool.{Bool, true, false, cond}
 use native.Mathlib.Omega.{arith}
 use lib.Dec.{eqb}
 use lib.ListN.{length}
 use borrow.Author.Tests.{eqb-true}
 use Rattle.slices.specs.Parts.{Bytes, part}
 use Rattle.slices.proofs.PartLaws.{length-part}
-use Rattle.image.specs.Image.{entryAt, decodeImage}
-use Rattle.image.specs.View.{readRefusal}
 use Rattle.image.specs.Scan.{SpanIn}
-use Rattle.image.specs.Read.{hasPayload, payloadOf, payloadAt}
 use Rattle.image.specs.Answers.{formatAnswer, appendAnswer, readAnswer, payloadAnswer}
 use Rattle.image.specs.declared.FormatAnswer.the-variants as format
 use Rattle.image.specs.declared.AppendAnswer.the-variants as append
 use Rattle.image.specs.declared.ReadAnswer.the-variants as read
 use Rattle.image.specs.declared.PayloadAnswer.the-variants as payload
 use Rattle.image.specs.Refusal.{unlessRefused}
-use Rattle.ropelog.specs.Images.{flag, payloadFound, found}
+use Rattle.ropelog.specs.Images.{flag}
 
 -- ---- a fresh image
 
@@ -148,30 +145,12 @@ module _ (refusal : ℕ) (has : Bool) (old : ℕ) where
 
 -- ---- where it stands
 
-module _ (c n m : ℕ) (b : Bytes) (slot start end : ℕ) (fits : SpanIn (length b) start end) where
-  module _ (stands : (part b start (end - start) ≡ payloadOf c n m b slot) × (start ≡ payloadAt c n m b slot)) (at size : ℕ) where
-    pub payload-none :
-        start ≡ 0 →
-        (0 ≡ flag (payloadFound c n m b slot))
-        × (at ≡ found 0 (payloadAt c n m b slot) at)
-        × (size ≡ found 0 (length (payloadOf c n m b slot)) size)
-        × (_≡_ {A = ℕ} 0 1 → part b at size ≡ payloadOf c n m b slot)
-    unfolding flag payloadFound payloadAt found
-    payload-none h = (go (eqb (readRefusal c n m b) 0 && hasPayload m (decodeImage c n m b) slot) (sym h ∙ stands .1), refl, refl, λ z. absurd (omega arith))
-      where
-        go : (t : Bool) → 0 ≡ cond t (entryAt m (slot - 1) + 26) 0 → 0 ≡ flag t
-        go true q = absurd (omega arith)
-        go false q = refl
-
-    pub payload-some :
-        (start ≡ 0 → ⊥) →
-        (1 ≡ flag (payloadFound c n m b slot))
-        × (start ≡ found 1 (payloadAt c n m b slot) at)
-        × (end - start ≡ found 1 (length (payloadOf c n m b slot)) size)
-        × (_≡_ {A = ℕ} 1 1 → part b start (end - start) ≡ payloadOf c n m b slot)
-    unfolding flag payloadFound payloadAt found
-    payload-some h = (go (eqb (readRefusal c n m b) 0 && hasPayload m (decodeImage c n m b) slot) (stands .1), stands .1, sym (length-part b start (end - start) (omega arith)) ∙ ap length (stands .0), λ z. stands .0)
-      where
-        go : (t : Bool) → start ≡ cond t (entryAt m (slot - 1) + 26) 0 → 1 ≡ flag t
-        go true q = refl
-        go false q = absurd (h q)
+pub payload-part :
+    (b p : Bytes) (start end at : ℕ) → SpanIn (length b) start end → (part b start (end - start) ≡ p) × (start ≡ at) →
+    (size : ℕ) → size ≡ end - start →
+    (start ≡ at) × (size ≡ length p) × (part b start size ≡ p)
+payload-part b p start end at fits stands size e = (
+  stands .1,
+  e ∙ sym (length-part b start (end - start) (let o = fits .ordered in let w = fits .within in omega arith)) ∙ ap length (stands .0),
+  ap (λ (z : ℕ). part b start z) e ∙ stands .0,
+)

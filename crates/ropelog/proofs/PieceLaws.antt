@@ -1,6 +1,6 @@
 -- The two ends of every call about a piece: it is refused and leaves what it was lent, or it is answered.
 use Prim.Native.Nat.{ℕ, _≤_, _<_}
-use mathlib.Core.Path.{_≡_, refl}
+use mathlib.Core.Path.{_≡_, refl, _∙_}
 use mathlib.Core.Bool.{true, false}
 use lib.ListN.{length}
 use borrow.Author.Tests.{eq-eqb, ne-eqb, le-leb, lt-leb}
@@ -38,13 +38,13 @@ pub entry-done :
 unfolding entryRefusal unlessRefused
 entry-done b p new after h l e = (simp (eq-eqb _ _ h, le-leb _ _ l), e)
 
-pub header-yes : (c n m : ℕ) (b : Bytes) → same b (headerBytes c n m) ≡ true → 1 ≡ headerCode c n m b
+pub header-good : (c n m : ℕ) (b : Bytes) → same b (headerBytes c n m) ≡ true → 0 ≡ headerCode c n m b
 unfolding headerCode
-header-yes c n m b h = rw h
+header-good c n m b h = rw h
 
-pub header-no : (c n m : ℕ) (b : Bytes) → same b (headerBytes c n m) ≡ false → 0 ≡ headerCode c n m b
+pub header-other : (c n m : ℕ) (b : Bytes) → same b (headerBytes c n m) ≡ false → (code : ℕ) → code ≡ 1 → code ≡ headerCode c n m b
 unfolding headerCode
-header-no c n m b h = rw h
+header-other c n m b h code e = e ∙ rw h
 
 pub column-too-wide : (b : Bytes) (old : ℕ) → 19 < length b → (3 ≡ columnCode b) × (old ≡ columnOut b old)
 unfolding columnCode columnOut

@@ -25,9 +25,9 @@ sizeRefusal size b = cond (eqb (length b) size) 0 3
 unfoldable pub entryRefusal : Bytes → Bytes → ℕ
 entryRefusal b p = cond (eqb (length b) entrySize) (cond (leb (length p) maxPayload) 0 9) 3
 
--- 1 if the header is the writer's, else 0
+-- 0 if the header is the writer's, else 1
 unfoldable pub headerCode : ℕ → ℕ → ℕ → Bytes → ℕ
-headerCode c n m b = cond (same b (headerBytes c n m)) 1 0
+headerCode c n m b = cond (same b (headerBytes c n m)) 0 1
 
 -- a column's state by code, and the number that stands in it
 abbrev pub columnStateCode : ColumnState → ℕ

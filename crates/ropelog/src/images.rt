@@ -8,7 +8,7 @@ ghost use Rattle.image.specs.View.{callRefusal, readRefusal, logLength};
 ghost use Rattle.image.specs.Read.{lentRefusal, epochsOf, verdictsOf, hasPayload, payloadOf, payloadAt};
 ghost use Rattle.image.specs.Append.{appendRefusal, appended, formatted};
 ghost use Rattle.image.specs.Refusal.{unlessRefused};
-ghost use Rattle.ropelog.specs.Images.{flag, payloadFound, found};
+ghost use Rattle.ropelog.specs.Images.{flag};
 
 // Makes a fresh image in a buffer of its size.
 #[no_mangle]
@@ -97,7 +97,8 @@ pub extern "C" fn rope_has_payload(
     }
 }
 
-// 1 if a slot of an image that is not refused has a payload, else 0. Hands out where the payload stands in the image, and its length.
+// Hands out a slot's payload as a part of the image: where it begins, and its length. If there is none, or the image is refused, it is
+// the empty part at 0. Nothing is answered: `rope_has_payload` says whether there is one.
 #[no_mangle]
 pub extern "C" fn rope_payload(
     image: &[u8],
@@ -107,19 +108,14 @@ pub extern "C" fn rope_payload(
     slot: usize,
     at: &mut usize,
     size: &mut usize,
-) -> u8
-    ensures { λ r. ⌜ (r ≡ flag (payloadFound replica n m (now (image .entry)) slot))
-        × (now (at .exit) ≡ found r (payloadAt replica n m (now (image .entry)) slot) (now (at .entry)))
-        × (now (size .exit) ≡ found r (length (payloadOf replica n m (now (image .entry)) slot)) (now (size .entry)))
-        × (r ≡ 1 → part (now (image .entry)) (now (at .exit)) (now (size .exit)) ≡ payloadOf replica n m (now (image .entry)) slot) ⌝ }
+)
+    ensures { λ _. ⌜ (now (at .exit) ≡ payloadAt replica n m (now (image .entry)) slot)
+        × (now (size .exit) ≡ length (payloadOf replica n m (now (image .entry)) slot))
+        × (part (now (image .entry)) (now (at .exit)) (now (size .exit)) ≡ payloadOf replica n m (now (image .entry)) slot) ⌝ }
 {
     let span = read::payload_span(image, replica, n, m, slot);
     let start = span.start;
-    if start == 0 {
-        return 0;
-    }
     let end = span.end;
     *at = start;
     *size = end - start;
-    1
 }

@@ -1,4 +1,5 @@
-// The pieces of an image, for any lent bytes. Refusals have document 01's numbers: 3 for a wrong length, 9 for a payload.
+// The pieces of an image, for any lent bytes. A writer answers 0 or document 01's refusal: 3 for a wrong length, 9 for a payload. A judge's
+// answer is no refusal but a code of its own, of which 0 is the good one.
 ghost use mathlib.Core.Path.{_≡_};
 ghost use lib.ListN.{length};
 ghost use Rattle.checksum.specs.Checksum.{checksumOf};
@@ -117,12 +118,12 @@ pub extern "C" fn rope_write_fresh_entry(s: &mut [u8]) -> u8
     0
 }
 
-// Whether the header is the writer's for this replica, n and m: 1 yes, 0 no.
+// Judges a header: 0 the writer's for this replica, n and m, 1 other bytes.
 #[no_mangle]
-pub extern "C" fn rope_is_header(s: &[u8], replica: usize, n: usize, m: usize) -> u8
+pub extern "C" fn rope_judge_header(s: &[u8], replica: usize, n: usize, m: usize) -> u8
     ensures { λ r. ⌜ r ≡ headerCode replica n m (now (s .entry)) ⌝ }
 {
-    if judge::is_header(s, replica, n, m) {
+    if !judge::is_header(s, replica, n, m) {
         return 1;
     }
     0

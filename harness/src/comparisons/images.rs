@@ -33,9 +33,9 @@ pub fn compare_read(rng: &mut Rng, calls: &ImageCalls, tally: &mut Tally) {
 fn compare_payload(rng: &mut Rng, calls: &ImageCalls, slot: usize, tally: &mut Tally) {
     let has = agree(rng, &calls.has_payload(slot));
     let payload = agree(rng, &calls.payload(slot));
-    let found = payload.answer.code();
-    assert_eq!(found == 1, has.answer.code() == 0 && has.number("has") == 1);
-    tally.count("payload", found);
+    let found = has.answer.code() == 0 && has.number("has") == 1;
+    assert_eq!(found, payload.number("at") != 0);
+    tally.count("payload", usize::from(found));
 }
 
 /// Mostly few slots, since each is asked for and each asking reads the image.

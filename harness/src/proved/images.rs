@@ -1,5 +1,5 @@
 //! One image: each call answers 0, or the refusal's number, and then nothing that was lent has
-//! changed. Only `payload` answers otherwise.
+//! changed. Only `payload` answers nothing.
 
 use super::exported;
 
@@ -69,7 +69,7 @@ pub fn has_payload(
     unsafe { exported::rope_has_payload(pointer, len, replica, n, m, slot, has) }
 }
 
-/// Whether the slot has a payload; hands out its offset in the image and its length.
+/// Hands out the payload's offset in the image and its length, both 0 if there is none.
 pub fn payload(
     image: &[u8],
     replica: usize,
@@ -78,12 +78,8 @@ pub fn payload(
     slot: usize,
     at: &mut usize,
     size: &mut usize,
-) -> bool {
+) {
     let (pointer, len) = (image.as_ptr(), image.len());
     // SAFETY: the slice and the numbers are lent for the call, and none overlaps another.
-    match unsafe { exported::rope_payload(pointer, len, replica, n, m, slot, at, size) } {
-        0 => false,
-        1 => true,
-        code => super::no_such("rope_payload", code),
-    }
+    unsafe { exported::rope_payload(pointer, len, replica, n, m, slot, at, size) }
 }

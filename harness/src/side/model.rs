@@ -201,14 +201,14 @@ fn payload(
     slot: usize,
     at: &mut usize,
     size: &mut usize,
-) -> bool {
-    if model::has_payload(image, replica, n, m, slot) != Ok(true) {
-        return false;
-    }
+) {
     let part = model::payload(image, replica, n, m, slot);
-    *at = part.as_ptr() as usize - image.as_ptr() as usize;
+    // The empty part of a slot without a payload is handed out at 0.
+    *at = match model::has_payload(image, replica, n, m, slot) {
+        Ok(true) => part.as_ptr() as usize - image.as_ptr() as usize,
+        _ => 0,
+    };
     *size = part.len();
-    true
 }
 
 fn plan(

@@ -117,8 +117,8 @@ fn payload(call: &Call, side: &Side, rng: &mut Rng) -> Option<Outcome> {
     let image = Guarded::new(rng, image);
     let (mut at, mut size) = (GuardedNumber::drawn(rng), GuardedNumber::drawn(rng));
     let (lent_at, lent_size) = (at.number_mut(), size.number_mut());
-    let found = (side.payload)(image.part(), replica, n, m, slot, lent_at, lent_size);
-    let outcome = Outcome::new(Answer::Flag(found))
+    (side.payload)(image.part(), replica, n, m, slot, lent_at, lent_size);
+    let outcome = Outcome::new(Answer::Nothing)
         .with_bytes("image", image)
         .with_number("at", at)
         .with_number("size", size);
