@@ -1,8 +1,12 @@
 -- `run_cluster` reads the images once, and notes each store that it makes.
-use Prim.Native.Nat.{_+_, _-_}
+use Prim.Native.Nat.{ℕ, _+_, _-_}
 use mathlib.Core.Path.{_≡_, refl, sym, _∙_}
 use borrow.Author.Tests.{not-true, not-false}
-use Rattle.protocol.specs.Call.{named}
+use mathlib.Core.List.{List}
+use Rattle.planner.specs.declared.Survey.{Survey}
+use Rattle.protocol.specs.Call.{Numbers, named}
+use Rattle.protocol.specs.CallResult.{Result, recovered}
+use Rattle.recovery.specs.declared.NextStore.{NextStore}
 use Rattle.recovery.specs.Answers.{numbers}
 use Rattle.recovery.proofs.OutcomeLaws.{refused-run, refused-run-bytes, waiting-run, waiting-run-bytes}
 use Rattle.recovery.proofs.OutlookLaws.{sees, in-range, end-fits, waits, readies}
@@ -11,6 +15,14 @@ use native.Mathlib.Omega.{arith}
 use borrow.Author.Needs.{needs}
 use Rattle.run.proofs.run_cluster.Statement.{statement}
 use Rattle.run.proofs.run_cluster.Tie as tie
+
+-- The count of an answer, and of the loop, is a number of its own: another count fails on a fact about numbers.
+counted-recovered : {x made : ℕ} {r : Result × ℕ} {B : Type 0} → ((recovered made, made) ≡ r) × B → x ≡ made → ((recovered x, x) ≡ r) × B
+counted-recovered h e = rw e h
+
+counted : {N : Numbers} {b₀ b : List ℕ} {t₀ t : NextStore} {leader budget made x : ℕ} {s : Survey}
+    → Noting N b₀ t₀ leader budget made b s t → x ≡ made → Noting N b₀ t₀ leader budget x b s t
+counted g e = rw e g
 
 abbrev Inv-loop : tie.InvT-loop
 Inv-loop cluster₀ n m leading present budget refusal leader shape survey₀ store₀ made₀ cluster survey store made =
@@ -88,7 +100,7 @@ returns-3 : tie.Need-returns-3 Inv-loop μ-loop
 returns-3 c =
     let a = c .before .before .before .before .before .before .before .before .before .before .before .before .before .before .args in
     let N = numbers (a .n) (a .m) (a .leading) (a .present) in
-    noting-recovered N (c .before .before .before .loop .inv) (sym (c .before .is-outstanding .ensures) ∙ not-true _ (c .if3 .taken))
+    counted-recovered (noting-recovered N (c .before .before .before .loop .inv) (sym (c .before .is-outstanding .ensures) ∙ not-true _ (c .if3 .taken))) (omega arith)
 
 make-store-requires : tie.Need-make-store-requires Inv-loop μ-loop
 make-store-requires c κs =
@@ -131,7 +143,7 @@ loop-again c =
     let x = c .before .before .before .before .before .before .make-store .ensures in
     let f = c .before .before .before .note-store .ensures in
     let q = c .before .made-on .ensures in
-    noting-more N g t x f (c .before .before .before .before .before .before .before .before .before .before .loop-test .taken) (λ v. c .next-store .ensures (a .leading) (a .present) v (noted-rests N g t x f q))
+    counted (noting-more N g t x f (c .before .before .before .before .before .before .before .before .before .before .loop-test .taken) (λ v. c .next-store .ensures (a .leading) (a .present) v (noted-rests N g t x f q))) (omega arith)
 
 run-answer-requires : tie.Need-run-answer-requires Inv-loop μ-loop
 run-answer-requires c κs = search needs
