@@ -9,9 +9,8 @@ ghost use Rattle.slices.specs.Parts.{spliced};
 ghost use Rattle.record.specs.Layout.{headerSize, recordSize, entrySize, maxPayload, blankRecord, freshEntry};
 ghost use Rattle.image.specs.Refusal.{refuse, _else_};
 ghost use Rattle.image.specs.Image.{imageSize};
-ghost use Rattle.image.specs.View.{callRefusal};
 ghost use Rattle.image.specs.Append.{stored, appended, formatted};
-ghost use Rattle.image.specs.Answers.{formatAnswer, appendCallAnswer};
+ghost use Rattle.image.specs.Answers.{formatNumbers, formatCallNumbers, appendNumbers, appendCallNumbers};
 use image::AppendAnswer;
 use image::FormatAnswer;
 use locate::MAX_PAYLOAD;
@@ -52,7 +51,7 @@ fn put_freshes(image: &mut [u8], m: usize)
 
 // Makes a fresh image in a buffer of its size.
 pub fn format_image(image: &mut [u8], replica: usize, n: usize, m: usize) -> FormatAnswer
-    ensures answer { λ r. ⌜ r ≡ formatAnswer (callRefusal replica n m (length (now (image .entry)))) ⌝ }
+    ensures answer { λ r. ⌜ formatNumbers r ≡ formatCallNumbers replica n m (length (now (image .entry))) ⌝ }
     ensures image { λ _. ⌜ now (image .exit) ≡ formatted replica n m (now (image .entry)) ⌝ }
 {
     let refusal = call_refusal(replica, n, m, image.len());
@@ -103,7 +102,7 @@ pub fn append_entry(
     epoch: u32,
     payload: &[u8],
 ) -> AppendAnswer
-    ensures answer { λ r. ⌜ r ≡ appendCallAnswer replica n m (now (image .entry)) epoch (length (now (payload .entry))) ⌝ }
+    ensures answer { λ r. ⌜ appendNumbers r ≡ appendCallNumbers replica n m (now (image .entry)) epoch (length (now (payload .entry))) ⌝ }
     ensures image { λ _. ⌜ now (image .exit) ≡ appended replica n m (now (image .entry)) epoch (now (payload .entry)) ⌝ }
 {
     let refusal = call_refusal(replica, n, m, image.len());

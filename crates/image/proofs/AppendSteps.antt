@@ -1,5 +1,5 @@
 -- Formatting and appending, test by test: which refusal it is, and what is answered and left then.
-use Prim.Native.Nat.{ℕ, _+_, _-_, _*_, _≤_, _<_}
+use Prim.Native.Nat.{ℕ, suc, _+_, _-_, _*_, _≤_, _<_}
 use mathlib.Core.Path.{_≡_, refl, sym, ap, _∙_}
 use mathlib.Core.Bool.{cond, _||_}
 use mathlib.Core.List.{List, _++_}
@@ -15,14 +15,12 @@ use Rattle.slices.proofs.SpliceLaws.{length-spliced}
 use Rattle.record.specs.Layout.{headerBytes, recordBytes, blankRecord, entryBytes, freshEntry}
 use Rattle.record.proofs.LayoutLaws.{length-header, length-entry}
 use Rattle.record.proofs.WriteLaws.{start, then, whole}
-use Rattle.image.specs.declared.FormatAnswer.the-variants as format
-use Rattle.image.specs.declared.AppendAnswer.the-variants as append
 use Rattle.image.specs.Refusal.{refuse, _else_}
 use Rattle.image.specs.Image.{Image, imageSize, recordAt, entryAt, decodeImage, freshImage}
 use Rattle.image.specs.View.{epochAt, logLength, callRefusal, imageRefusal, readRefusal}
 use Rattle.image.specs.Seen.{Seen}
 use Rattle.image.specs.Append.{lastEpoch, appendRefusal, stored, appended, formatted}
-use Rattle.image.specs.Answers.{formatAnswer, appendAnswer}
+use Rattle.image.specs.Answers.{refused, value, numbered, formatCallNumbers}
 use Rattle.image.proofs.RefusalLaws.{else-next, else-first}
 use Rattle.image.proofs.CallLaws.{slots-high, called-slots, called-size}
 use Rattle.image.proofs.ViewLaws.{length-le}
@@ -34,8 +32,8 @@ use Rattle.image.proofs.FreshLaws.{length-records, length-entries, leng
 -- ---- formatting
 
 module _ (c n m : ℕ) (b : Bytes) {r : ℕ} (is : r ≡ callRefusal c n m (length b)) where
-  pub format-refused : ¬ (r ≡ 0) → (format.Refused r ≡ formatAnswer (callRefusal c n m (length b))) × (b ≡ formatted c n m b)
-  unfolding formatAnswer formatted
+  pub format-refused : ¬ (r ≡ 0) → (refused r ≡ formatCallNumbers c n m (length b)) × (b ≡ formatted c n m b)
+  unfolding numbered formatted
   format-refused h = let off = ne-eqb r 0 h in (sym (rw (← is, off)), sym (rw (← is, off)))
 
   module _ (free : r ≡ 0) where
@@ -52,8 +50,8 @@ module _ (c n m : ℕ) (b : Bytes) {r : ℕ} (is : r ≡ callRefusal c n m (leng
     blanked-size {x} p q = ap length q ∙ length-spliced x 28 (joined m (λ k. blankRecord)) (omega (arith, length-records m, headed-size p)) ∙ headed-size p
 
   pub format-done : r ≡ 0 → {x y z : Bytes} → x ≡ spliced b 0 (headerBytes c n m) → y ≡ spliced x 28 (joined m (λ k. blankRecord))
-      → z ≡ spliced y (28 + 34 * m) (joined m (λ k. freshEntry)) → (format.Formatted ≡ formatAnswer (callRefusal c n m (length b))) × (z ≡ formatted c n m b)
-  unfolding formatAnswer formatted
+      → z ≡ spliced y (28 + 34 * m) (joined m (λ k. freshEntry)) → (value tt ≡ formatCallNumbers c n m (length b)) × (z ≡ formatted c n m b)
+  unfolding numbered formatted
   format-done h {x} {y} {z} p q s = (sym (rw (← is, h)), made ∙ sym (rw (← is, h)))
     where
       head : length (headerBytes c n m) ≡ 28
@@ -168,11 +166,11 @@ module _ (m k : ℕ) (b : Bytes) (km : k < m) (size : length b ≡ imageSize m) 
 
 module _ (c n m : ℕ) (b : Bytes) (e : ℕ) (p : Bytes) {r : ℕ} (is : appendRefusal c n m b e (length p) ≡ r) where
   pub append-refused : ¬ (r ≡ 0)
-      → (append.Refused r ≡ appendAnswer (appendRefusal c n m b e (length p)) (logLength m (decodeImage c n m b))) × (b ≡ appended c n m b e p)
-  unfolding appendAnswer appended
+      → (refused r ≡ numbered (appendRefusal c n m b e (length p)) (suc (logLength m (decodeImage c n m b)))) × (b ≡ appended c n m b e p)
+  unfolding numbered appended
   append-refused h = let off = ne-eqb r 0 h in (sym (rw (is, off)), sym (rw (is, off)))
 
   pub append-done : r ≡ 0 → {k : ℕ} {d : Bytes} → k ≡ logLength m (decodeImage c n m b) → d ≡ stored m b k e p
-      → (append.Slot (k + 1) ≡ appendAnswer (appendRefusal c n m b e (length p)) (logLength m (decodeImage c n m b))) × (d ≡ appended c n m b e p)
-  unfolding appendAnswer appended
+      → (value (k + 1) ≡ numbered (appendRefusal c n m b e (length p)) (suc (logLength m (decodeImage c n m b)))) × (d ≡ appended c n m b e p)
+  unfolding numbered appended
   append-done h q s = (sym (rw (is, h, ← q, add-one)), rw (is, h, ← q) s)

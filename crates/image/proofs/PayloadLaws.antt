@@ -16,14 +16,13 @@ use Rattle.record.specs.Judged.{entryAnswer}
 use Rattle.record.specs.declared.EntryState.{EntryState}
 use Rattle.record.specs.declared.EntryState.the-variants.{Intact, Broken}
 use Rattle.record.proofs.EntryLaws.{intact-for, intact-payload, intact-part}
-use Rattle.image.specs.declared.PayloadAnswer.the-variants as payload
 use Rattle.image.specs.Image.{Image, imageSize, entryAt, decodeImage}
 use Rattle.image.specs.View.{Condition, Unused, Whole, RecordLost, Faulty, Lost, condition, conditionAt, readRefusal}
 use Rattle.image.specs.View.{conditionNumber}
 use Rattle.image.specs.Seen.{conditionsOf}
 use Rattle.image.specs.Scan.{SpanIn}
 use Rattle.image.specs.Read.{isWhole, hasPayload, payloadOf, payloadAt}
-use Rattle.image.specs.Answers.{payloadAnswer}
+use Rattle.image.specs.Answers.{refused, value, numbered}
 use Rattle.image.proofs.DecodeLaws.{entry-there, entry-fits}
 use Rattle.image.proofs.ScannedLaws.{taken-at}
 
@@ -69,17 +68,17 @@ module _ (m slot : ℕ) (i : Image) (h : hasPayload m i slot ≡ true) where
   unfolding hasPayload
   has-whole = and-right (leb 1 slot && leb slot m) (isWhole (conditionAt i (slot - 1))) h
 
-pub payload-refused : (r q : ℕ) (has : Bool) → r ≡ q → ¬ (r ≡ 0) → payload.Refused r ≡ payloadAnswer q has
-unfolding payloadAnswer
+pub payload-refused : (r q : ℕ) (has : Bool) → r ≡ q → ¬ (r ≡ 0) → refused r ≡ numbered q has
+unfolding numbered
 payload-refused r q has e h = sym (rw (← e, ne-eqb r 0 h))
 
 module _ (r q : ℕ) (t has : Bool) (e : r ≡ q) (h : r ≡ 0) (s : t ≡ has) where
-  pub payload-present : t ≡ true → payload.Present ≡ payloadAnswer q has
-  unfolding payloadAnswer
+  pub payload-present : t ≡ true → value true ≡ numbered q has
+  unfolding numbered
   payload-present u = sym (rw (← e, h, ← s, u))
 
-  pub payload-absent : t ≡ false → payload.Absent ≡ payloadAnswer q has
-  unfolding payloadAnswer
+  pub payload-absent : t ≡ false → value false ≡ numbered q has
+  unfolding numbered
   payload-absent u = sym (rw (← e, h, ← s, u))
 
 -- ---- where a payload stands

@@ -10,7 +10,6 @@ use Rattle.search.specs.Search.{listed}
 use Rattle.search.proofs.ListedLaws.{listed-cong}
 use Rattle.slices.specs.Parts.{Bytes}
 use Rattle.slices.proofs.SameLaws.{and-off}
-use Rattle.image.specs.declared.ReadAnswer.the-variants as read
 use Rattle.image.specs.Refusal.{refuse, unlessRefused}
 use Rattle.image.specs.Image.{Image, imageSize, decodeImage}
 use Rattle.image.specs.View.{epochAt, isSlots, callRefusal, imageRefusal, readRefusal}
@@ -18,7 +17,7 @@ use Rattle.image.specs.Seen.{Seen}
 use Rattle.image.specs.Verdict.{isFresh}
 use Rattle.image.specs.Scan.{Marked}
 use Rattle.image.specs.Read.{lentRefusal, epochsOf, verdictsOf}
-use Rattle.image.specs.Answers.{readAnswer}
+use Rattle.image.specs.Answers.{refused, value, numbered}
 use Rattle.image.proofs.RefusalLaws.{else-first, else-next, else-zero-l, refuse-on, refuse-off}
 use Rattle.image.proofs.CallLaws.{called-slots, called-size}
 use Rattle.image.proofs.ScannedLaws.{taken-at}
@@ -68,16 +67,16 @@ module _ (c n m : ℕ) (b : Bytes) (es vs r : ℕ) (e : r ≡ readRefusal c n m 
 
 -- a refused call changes nothing lent
 pub read-refused : {q r : ℕ} → q ≡ r → ¬ (r ≡ 0) → (len : ℕ) (x es y vs : List ℕ)
-    → (read.Refused r ≡ readAnswer q len) × (es ≡ unlessRefused q x es) × (vs ≡ unlessRefused q y vs)
-unfolding readAnswer unlessRefused
+    → (refused r ≡ numbered q len) × (es ≡ unlessRefused q x es) × (vs ≡ unlessRefused q y vs)
+unfolding numbered unlessRefused
 read-refused {q} {r} e h len x es y vs = (sym (rw (e, off)), sym (rw (e, off)), sym (rw (e, off)))
   where
     off : eqb r 0 ≡ false
     off = ne-eqb r 0 h
 
 pub read-done : {q : ℕ} → q ≡ 0 → (len used : ℕ) (x es es′ y vs vs′ : List ℕ) → used ≡ len → es′ ≡ x → vs′ ≡ y
-    → (read.Length used ≡ readAnswer q len) × (es′ ≡ unlessRefused q x es) × (vs′ ≡ unlessRefused q y vs)
-unfolding readAnswer unlessRefused
+    → (value used ≡ numbered q len) × (es′ ≡ unlessRefused q x es) × (vs′ ≡ unlessRefused q y vs)
+unfolding numbered unlessRefused
 read-done {q} e len used x es es′ y vs vs′ l p v = (rw (e, l), rw (e, p), rw (e, v))
 
 -- what the view tells is what the buffers are filled from

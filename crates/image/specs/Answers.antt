@@ -1,14 +1,14 @@
--- The answers of this crate's calls in document 01's numbers: a value, or a refusal by number.
+-- The answers of the calls about one image in document 01's numbers: a value, or a refusal by number. Each enum by its cases.
 use Prim.Native.Nat.{ℕ, suc}
-use mathlib.Core.Bool.{Bool, cond}
+use mathlib.Core.Bool.{Bool, true, false, cond}
 use mathlib.Core.List.{List}
 use lib.Dec.{eqb}
 use lib.ListN.{length}
 use Rattle.slices.specs.Parts.{Bytes}
 use Rattle.image.specs.Refusal.{unlessRefused}
 use Rattle.image.specs.Image.{decodeImage}
-use Rattle.image.specs.View.{logLength}
-use Rattle.image.specs.Read.{lentRefusal, epochsOf, verdictsOf}
+use Rattle.image.specs.View.{callRefusal, readRefusal, logLength}
+use Rattle.image.specs.Read.{lentRefusal, epochsOf, verdictsOf, hasPayload}
 use Rattle.image.specs.Append.{appendRefusal}
 use Rattle.image.specs.declared.FormatAnswer.{FormatAnswer}
 use Rattle.image.specs.declared.FormatAnswer.the-variants as format
@@ -19,17 +19,43 @@ use Rattle.image.specs.declared.AppendAnswer.the-variants as append
 use Rattle.image.specs.declared.PayloadAnswer.{PayloadAnswer}
 use Rattle.image.specs.declared.PayloadAnswer.the-variants as payload
 
--- made, or the refusal
-unfoldable pub formatAnswer : ℕ → FormatAnswer
-formatAnswer refusal = cond (eqb refusal 0) format.Formatted (format.Refused refusal)
+-- a call's answer in numbers: refused by this number, or 01's value
+pub data Numbered (A : Type 0) : Type 0 where
+  refused : ℕ → Numbered A
+  value : A → Numbered A
 
--- the log's length, or the refusal
-unfoldable pub readAnswer : ℕ → ℕ → ReadAnswer
-readAnswer refusal length = cond (eqb refusal 0) (read.Length length) (read.Refused refusal)
+-- the refusal if there is one, else the value
+unfoldable pub numbered : {A : Type 0} → ℕ → A → Numbered A
+numbered refusal v = cond (eqb refusal 0) (value v) (refused refusal)
+
+-- formatting has no value
+abbrev pub formatNumbers : FormatAnswer → Numbered (Unit {0})
+formatNumbers format.Formatted = value tt
+formatNumbers (format.Refused r) = refused r
+
+-- the log's length
+abbrev pub readNumbers : ReadAnswer → Numbered ℕ
+readNumbers (read.Length length) = value length
+readNumbers (read.Refused r) = refused r
+
+-- the number of the slot that was written
+abbrev pub appendNumbers : AppendAnswer → Numbered ℕ
+appendNumbers (append.Slot slot) = value slot
+appendNumbers (append.Refused r) = refused r
+
+-- whether there is a payload
+abbrev pub payloadNumbers : PayloadAnswer → Numbered Bool
+payloadNumbers payload.Present = value true
+payloadNumbers payload.Absent = value false
+payloadNumbers (payload.Refused r) = refused r
+
+-- a fresh image of replica c, of n, with m slots, in a buffer of so many bytes: the answer
+abbrev pub formatCallNumbers : ℕ → ℕ → ℕ → ℕ → Numbered (Unit {0})
+formatCallNumbers c n m size = numbered (callRefusal c n m size) tt
 
 -- reading replica c's image, of n, with m slots, lent buffers of so many epochs and verdicts: the answer
-abbrev pub readCallAnswer : ℕ → ℕ → ℕ → Bytes → ℕ → ℕ → ReadAnswer
-readCallAnswer c n m b epochs verdicts = readAnswer (lentRefusal c n m b epochs verdicts) (logLength m (decodeImage c n m b))
+abbrev pub readCallNumbers : ℕ → ℕ → ℕ → Bytes → ℕ → ℕ → Numbered ℕ
+readCallNumbers c n m b epochs verdicts = numbered (lentRefusal c n m b epochs verdicts) (logLength m (decodeImage c n m b))
 
 -- what it leaves in them
 abbrev pub epochsLeft : ℕ → ℕ → ℕ → Bytes → List ℕ → ℕ → List ℕ
@@ -38,14 +64,10 @@ epochsLeft c n m b epochs verdicts = unlessRefused (lentRefusal c n m b (length 
 abbrev pub verdictsLeft : ℕ → ℕ → ℕ → Bytes → ℕ → List ℕ → List ℕ
 verdictsLeft c n m b epochs verdicts = unlessRefused (lentRefusal c n m b epochs (length verdicts)) (verdictsOf m (decodeImage c n m b)) verdicts
 
--- the number of the slot that was written, or the refusal
-unfoldable pub appendAnswer : ℕ → ℕ → AppendAnswer
-appendAnswer refusal k = cond (eqb refusal 0) (append.Slot (suc k)) (append.Refused refusal)
+-- an append to replica c's image, of epoch e and a payload of so many bytes: the first unused slot's number
+abbrev pub appendCallNumbers : ℕ → ℕ → ℕ → Bytes → ℕ → ℕ → Numbered ℕ
+appendCallNumbers c n m b e size = numbered (appendRefusal c n m b e size) (suc (logLength m (decodeImage c n m b)))
 
--- of an append to replica c's image, of epoch e and a payload of so many bytes
-abbrev pub appendCallAnswer : ℕ → ℕ → ℕ → Bytes → ℕ → ℕ → AppendAnswer
-appendCallAnswer c n m b e size = appendAnswer (appendRefusal c n m b e size) (logLength m (decodeImage c n m b))
-
--- whether there is a payload, or the refusal
-unfoldable pub payloadAnswer : ℕ → Bool → PayloadAnswer
-payloadAnswer refusal has = cond (eqb refusal 0) (cond has payload.Present payload.Absent) (payload.Refused refusal)
+-- whether slot number s of replica c's image has a payload
+abbrev pub payloadCallNumbers : ℕ → ℕ → ℕ → Bytes → ℕ → Numbered Bool
+payloadCallNumbers c n m b s = numbered (readRefusal c n m b) (hasPayload m (decodeImage c n m b) s)

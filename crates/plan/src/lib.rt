@@ -5,7 +5,7 @@ ghost use lib.ListN.{length};
 ghost use Rattle.image.specs.View.{View};
 ghost use Rattle.planner.specs.Setting.{Setting, settingOf};
 ghost use Rattle.planner.specs.Plan.{viewsIn, lentRefusal, planRefusal};
-ghost use Rattle.planner.specs.Answers.{planCallAnswer, planLeft, rowsLeft};
+ghost use Rattle.planner.specs.Answers.{planNumbers, planCallNumbers, planLeft, rowsLeft};
 ghost use Rattle.planner.specs.Tabulated.{answerAt, Outcome};
 use copy::copy_bytes;
 use decide::open_cluster;
@@ -18,7 +18,7 @@ use tabulate::survey_rows;
 
 // The answer of a plan: the number of the lowest waiting slot, or the final length.
 pub fn plan_answer(end: usize, waiting: usize) -> PlanAnswer
-    ensures { λ r. ⌜ r ≡ answerAt end waiting ⌝ }
+    ensures { λ r. ⌜ planNumbers r ≡ answerAt end waiting ⌝ }
 {
     if waiting < end {
         return PlanAnswer::Waiting(waiting + 1);
@@ -111,7 +111,8 @@ pub fn plan_cluster(
     plan: &mut [u8],
     rows: &mut [ReplicaRow],
 ) -> PlanAnswer
-    ensures { λ r. ⌜ (r ≡ planCallAnswer n m leading present (now (cluster .entry)) (length (now (plan .entry))) (length (now (rows .entry))))
+    ensures { λ r. ⌜ (planNumbers r
+        ≡ planCallNumbers n m leading present (now (cluster .entry)) (length (now (plan .entry))) (length (now (rows .entry))))
         × (now (plan .exit) ≡ planLeft n m leading present (now (cluster .entry)) (now (plan .entry)) (length (now (rows .entry))))
         × (now (rows .exit) ≡ rowsLeft n m leading present (now (cluster .entry)) (length (now (plan .entry))) (now (rows .entry))) ⌝ }
 {

@@ -1,6 +1,6 @@
 -- What the planner's call answers and leaves.
 use Prim.Native.Nat.{ℕ, suc, _+_, _-_, _<_, _≤_}
-use mathlib.Core.Path.{_≡_, refl, sym, _∙_, subst}
+use mathlib.Core.Path.{_≡_, refl, sym, ap, _∙_, subst}
 use mathlib.Core.Bool.{Bool, true, false, cond}
 use mathlib.Core.List.{List}
 use native.Mathlib.Omega.{arith}
@@ -13,6 +13,7 @@ use Rattle.slices.specs.Parts.{Bytes}
 use Rattle.search.specs.Search.{listed}
 use Rattle.image.specs.Refusal.{unlessRefused}
 use Rattle.image.specs.View.{View}
+use Rattle.image.specs.Answers.{value}
 use Rattle.planner.specs.Setting.{Setting, settingOf, has}
 use Rattle.planner.specs.Rules.{Refused, Waiting, Ready, answer, end, firstWaiting}
 use Rattle.planner.specs.Plan.{viewsIn, planBytes, clusterRefusal, lentRefusal, planRefusal}
@@ -20,7 +21,7 @@ use Rattle.planner.specs.declared.PlanAnswer.{PlanAnswer}
 use Rattle.planner.specs.declared.PlanAnswer.the-variants as plan
 use Rattle.planner.specs.declared.ReplicaRow.{ReplicaRow}
 use Rattle.planner.specs.Survey.{SurveyOf, Planned}
-use Rattle.planner.specs.Answers.{answered, planAnswer, rowsOf}
+use Rattle.planner.specs.Answers.{planNumbers, answerNumbers, planNumbered, rowsOf}
 use Rattle.planner.specs.Tabulated.{answerAt, frontRows, numberRow, Outcome}
 use Rattle.planner.proofs.RowLaws.{lengths-fit, rows-are}
 use Rattle.planner.proofs.SeenLaws.{size-le}
@@ -29,25 +30,25 @@ use Rattle.planner.proofs.CallLaws.{cluster-shaped}
 use Rattle.planner.proofs.LentLaws.{lent-rows, lent-zero}
 use Rattle.planner.proofs.FrontLaws.{front-none, front-all}
 
-pub answer-waiting : (e w : ℕ) → w < e → plan.Waiting (w + 1) ≡ answerAt e w
+pub answer-waiting : (e w : ℕ) → w < e → value (1, w + 1) ≡ answerAt e w
 unfolding answerAt
 answer-waiting e w h = rw (lt-ltb w e h, add-one) refl
 
-pub answer-ready : (e w : ℕ) → e ≤ w → plan.Ready e ≡ answerAt e w
+pub answer-ready : (e w : ℕ) → e ≤ w → value (0, e) ≡ answerAt e w
 unfolding answerAt
 answer-ready e w h = rw (le-ltb w e h) refl
 
 answer-found : (S : Setting) (W : ℕ → View) {final waiting : ℕ} → W (S .leader) .readable ≡ true → final ≡ end S W → waiting ≡ firstWaiting S W
-    → answerAt final waiting ≡ answered (answer S W)
-unfolding answerAt answered answer
+    → answerAt final waiting ≡ answerNumbers (answer S W)
+unfolding answerAt answerNumbers answer
 answer-found S W ok f w = rw (ok, f, w) (go (ltb (firstWaiting S W) (end S W)))
   where
-    go : (t : Bool) → cond t (plan.Waiting (suc (firstWaiting S W))) (plan.Ready (end S W)) ≡ answered (cond t (Waiting (firstWaiting S W)) (Ready (end S W)))
+    go : (t : Bool) → cond t (value (1, suc (firstWaiting S W))) (value (0, end S W)) ≡ answerNumbers (cond t (Waiting (firstWaiting S W)) (Ready (end S W)))
     go true = refl
     go false = refl
 
 pub refused-outcome : (refusal : ℕ) (rows : List ReplicaRow) {count : ℕ} → length rows ≡ 7 → count ≡ 0 → (refusal ≡ 0 → ⊥) → (S : Setting) (W : ℕ → View) → Outcome refusal S W (plan.Refused refusal) count rows
-unfolding planAnswer
+unfolding planNumbered
 refused-outcome refusal rows l none e S W = record {
   sized = l;
   answer-is = rw (ne-eqb refusal 0 e) refl;
@@ -63,9 +64,9 @@ module _ (S : Setting) (W : ℕ → View) {n leader readable : ℕ} {lengths con
   pub rows-ask : (n ≤ 7) × ((c : ℕ) → c < n → has readable c ≡ true → getD lengths c 0 ≤ 64)
   rows-ask = (o .few, lengths-fit n (S .m) readable W lengths conditions epochs (o .surveyed) (λ c b r. o .logs-fit c) (o .slots-fit))
 
-  pub planned-outcome : {refusal final waiting : ℕ} {bytes : List ℕ} {a : PlanAnswer} {rows : List ReplicaRow} → refusal ≡ 0 → Planned S W bytes final waiting → a ≡ answerAt final waiting
+  pub planned-outcome : {refusal final waiting : ℕ} {bytes : List ℕ} {a : PlanAnswer} {rows : List ReplicaRow} → refusal ≡ 0 → Planned S W bytes final waiting → planNumbers a ≡ answerAt final waiting
       → (length rows ≡ 7) × (take n rows ≡ listed n (numberRow readable lengths epochs)) → Outcome refusal S W a n rows
-  unfolding planAnswer rowsOf
+  unfolding planNumbered rowsOf
   planned-outcome z p e t = record {
     sized = t .0;
     answer-is = e ∙ answer-found S W (rw (o .leader-is) (o .leader-reads)) (p .end-is) (p .waiting-is) ∙ rw (eq-eqb _ _ z) refl;
@@ -133,8 +134,8 @@ module _ (n m leader present : ℕ) (b : Bytes) (bytes : ℕ) (old : List Replic
   unfolding settingOf
   fill-asks e = let f = count-fits old o (table-fits n m leader present b bytes (length old)) in (o .sized, omega (arith, f .0), omega (arith, f .1))
 
-  pub call-answers : {r : PlanAnswer} → r ≡ a → r ≡ planAnswer (planRefusal n m leader present b bytes (length old)) (answer (settingOf n m leader present) (viewsIn (settingOf n m leader present) b))
-  call-answers e = e ∙ o .answer-is
+  pub call-answers : {r : PlanAnswer} → r ≡ a → planNumbers r ≡ planNumbered (planRefusal n m leader present b bytes (length old)) (answer (settingOf n m leader present) (viewsIn (settingOf n m leader present) b))
+  call-answers e = ap planNumbers e ∙ o .answer-is
 
   pub call-fills : {k : ℕ} {new : List ReplicaRow} → k ≡ count → new ≡ frontRows k rows old
       → new ≡ unlessRefused (planRefusal n m leader present b bytes (length old)) (rowsOf (settingOf n m leader present) (viewsIn (settingOf n m leader present) b)) old

@@ -8,6 +8,7 @@ use Rattle.search.specs.Search.{oneIf, listed}
 use Rattle.slices.specs.Parts.{Bytes}
 use Rattle.image.specs.Refusal.{unlessRefused}
 use Rattle.image.specs.View.{View}
+use Rattle.image.specs.Answers.{Numbered, refused, value}
 use Rattle.planner.specs.Setting.{Setting, settingOf}
 use Rattle.planner.specs.Rules.{Answer, Refused, Waiting, Ready, answer}
 use Rattle.planner.specs.Plan.{viewsIn, planRefusal, planBytes, rowLength, rowEpoch}
@@ -15,14 +16,21 @@ use Rattle.planner.specs.declared.PlanAnswer.{PlanAnswer}
 use Rattle.planner.specs.declared.PlanAnswer.the-variants as plan
 use Rattle.planner.specs.declared.ReplicaRow.{ReplicaRow}
 
--- ready with the final length, or waiting with the lowest waiting slot's number, from 1
-unfoldable pub answered : Answer → PlanAnswer
-answered Refused = plan.Refused 12
-answered (Waiting k) = plan.Waiting (suc k)
-answered (Ready l) = plan.Ready l
+-- 01's status and the answer's number: 0, ready, and the final length; 1, waiting, and the lowest waiting slot, by its number
+abbrev pub planNumbers : PlanAnswer → Numbered (ℕ × ℕ)
+planNumbers (plan.Ready l) = value (0, l)
+planNumbers (plan.Waiting k) = value (1, k)
+planNumbers (plan.Refused r) = refused r
 
-unfoldable pub planAnswer : ℕ → Answer → PlanAnswer
-planAnswer refusal a = cond (eqb refusal 0) (answered a) (plan.Refused refusal)
+-- the same of what the rules answer, whose slots count from 0
+unfoldable pub answerNumbers : Answer → Numbered (ℕ × ℕ)
+answerNumbers Refused = refused 12
+answerNumbers (Waiting k) = value (1, suc k)
+answerNumbers (Ready l) = value (0, l)
+
+-- the refusal if there is one, else what the rules answer
+unfoldable pub planNumbered : ℕ → Answer → Numbered (ℕ × ℕ)
+planNumbered refusal a = cond (eqb refusal 0) (answerNumbers a) (refused refusal)
 
 -- 01's row for a replica
 unfoldable pub rowOf : View → ReplicaRow
@@ -39,9 +47,9 @@ abbrev pub rowsIn : ℕ → ℕ → ℕ → ℕ → Bytes → List ReplicaRow
 rowsIn n m leading present b = rowsOf (settingOf n m leading present) (viewsIn (settingOf n m leading present) b)
 
 -- the planner's call with a lent plan and a lent table: its answer
-abbrev pub planCallAnswer : ℕ → ℕ → ℕ → ℕ → Bytes → ℕ → ℕ → PlanAnswer
-planCallAnswer n m leading present b plan rows =
-    planAnswer (planRefusal n m leading present b plan rows) (answer (settingOf n m leading present) (viewsIn (settingOf n m leading present) b))
+abbrev pub planCallNumbers : ℕ → ℕ → ℕ → ℕ → Bytes → ℕ → ℕ → Numbered (ℕ × ℕ)
+planCallNumbers n m leading present b plan rows =
+    planNumbered (planRefusal n m leading present b plan rows) (answer (settingOf n m leading present) (viewsIn (settingOf n m leading present) b))
 
 -- what it leaves in the plan and in the table
 abbrev pub planLeft : ℕ → ℕ → ℕ → ℕ → Bytes → Bytes → ℕ → Bytes

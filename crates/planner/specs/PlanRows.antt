@@ -7,7 +7,7 @@ use Rattle.image.specs.View.{Unused, Whole, Faulty, View}
 use Rattle.planner.specs.Setting.{Setting, settingOf}
 use Rattle.planner.specs.Rules.{Waiting, Ready, answer}
 use Rattle.planner.specs.Plan.{planBytes}
-use Rattle.planner.specs.Answers.{answered}
+use Rattle.planner.specs.Answers.{planNumbers, answerNumbers}
 use Rattle.planner.specs.declared.PlanAnswer.the-variants as plan
 
 -- a replica with at most one slot, in epoch 1
@@ -36,10 +36,10 @@ ofFive = settingOf 5 1 1 31
 
 pub record PlanRows : Type 0 where
   pub cut-bytes : planBytes ofFive (five lacks lacks lacks away) ≡ 4 ∷ []
-  pub cut-answer : answered (answer ofFive (five lacks lacks lacks away)) ≡ plan.Ready 0
+  pub cut-answer : answerNumbers (answer ofFive (five lacks lacks lacks away)) ≡ planNumbers (plan.Ready 0)
   pub two-bytes : planBytes ofFive (five lacks lacks away away) ≡ 3 ∷ []
-  pub two-answer : answered (answer ofFive (five lacks lacks away away)) ≡ plan.Waiting 1
+  pub two-answer : answerNumbers (answer ofFive (five lacks lacks away away)) ≡ planNumbers (plan.Waiting 1)
   pub faulty-bytes : planBytes ofFive (five lacks lacks faulty away) ≡ 3 ∷ []
-  pub faulty-answer : answered (answer ofFive (five lacks lacks faulty away)) ≡ plan.Waiting 1
+  pub faulty-answer : answerNumbers (answer ofFive (five lacks lacks faulty away)) ≡ planNumbers (plan.Waiting 1)
   pub fetch-bytes : planBytes ofFive (five lacks lacks lacks intact) ≡ 15 ∷ []
-  pub fetch-answer : answered (answer ofFive (five lacks lacks lacks intact)) ≡ plan.Ready 1
+  pub fetch-answer : answerNumbers (answer ofFive (five lacks lacks lacks intact)) ≡ planNumbers (plan.Ready 1)

@@ -6,16 +6,16 @@ use mathlib.Core.List.{List, _++_}
 use lib.Dec.{eqb, ltb}
 use lib.ListN.{length, getD, take, drop}
 use Rattle.image.specs.View.{View}
+use Rattle.image.specs.Answers.{Numbered, value}
 use Rattle.planner.specs.Setting.{Setting, has}
 use Rattle.planner.specs.Rules.{Waiting, Ready, answer}
 use Rattle.planner.specs.declared.PlanAnswer.{PlanAnswer}
-use Rattle.planner.specs.declared.PlanAnswer.the-variants as plan
 use Rattle.planner.specs.declared.ReplicaRow.{ReplicaRow}
-use Rattle.planner.specs.Answers.{planAnswer, rowsOf}
+use Rattle.planner.specs.Answers.{planNumbers, planNumbered, rowsOf}
 
 -- the answer of a plan with this end and this lowest waiting slot
-unfoldable pub answerAt : ℕ → ℕ → PlanAnswer
-answerAt e w = cond (ltb w e) (plan.Waiting (suc w)) (plan.Ready e)
+unfoldable pub answerAt : ℕ → ℕ → Numbered (ℕ × ℕ)
+answerAt e w = cond (ltb w e) (value (1, suc w)) (value (0, e))
 
 unfoldable pub noRow : ReplicaRow
 noRow = record { readable = 0; length = 0; «last_epoch» = 0 }
@@ -35,6 +35,6 @@ numberRow readable lengths epochs c =
 -- what the planner found: its answer, how many rows there are to fill, and the rows
 pub record Outcome (refusal : ℕ) (S : Setting) (W : ℕ → View) (a : PlanAnswer) (count : ℕ) (rows : List ReplicaRow) : Type 0 where
   pub sized : length rows ≡ 7
-  pub answer-is : a ≡ planAnswer refusal (answer S W)
+  pub answer-is : planNumbers a ≡ planNumbered refusal (answer S W)
   pub count-is : count ≡ cond (eqb refusal 0) (S .n) 0
   pub rows-are : refusal ≡ 0 → take (S .n) rows ≡ rowsOf S W

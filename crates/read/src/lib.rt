@@ -8,13 +8,13 @@ ghost use Rattle.slices.specs.Parts.{part};
 ghost use Rattle.record.specs.Layout.{entrySize};
 ghost use Rattle.record.specs.Meaning.{entryPayload};
 ghost use Rattle.image.specs.Image.{Image, imageSize, entryAt, decodeImage};
-ghost use Rattle.image.specs.View.{Condition, conditionAt, readRefusal};
+ghost use Rattle.image.specs.View.{Condition, conditionAt};
 ghost use Rattle.image.specs.View.{conditionNumber};
 ghost use Rattle.image.specs.Seen.{conditionsOf};
 ghost use Rattle.image.specs.Verdict.{isFresh, verdictOf};
 ghost use Rattle.image.specs.Scan.{Marked, SpanIn};
 ghost use Rattle.image.specs.Read.{verdictsOf, isWhole, hasPayload, payloadOf, payloadAt};
-ghost use Rattle.image.specs.Answers.{readCallAnswer, epochsLeft, verdictsLeft, payloadAnswer};
+ghost use Rattle.image.specs.Answers.{readNumbers, readCallNumbers, epochsLeft, verdictsLeft, payloadNumbers, payloadCallNumbers};
 use image::MAX_SLOTS;
 use image::PayloadAnswer;
 use image::ReadAnswer;
@@ -107,7 +107,8 @@ pub fn read_image(
     epochs: &mut [u32],
     verdicts: &mut [u8],
 ) -> ReadAnswer
-    ensures { λ r. ⌜ (r ≡ readCallAnswer replica n m (now (image .entry)) (length (now (epochs .entry))) (length (now (verdicts .entry))))
+    ensures { λ r. ⌜ (readNumbers r
+        ≡ readCallNumbers replica n m (now (image .entry)) (length (now (epochs .entry))) (length (now (verdicts .entry))))
         × (now (epochs .exit) ≡ epochsLeft replica n m (now (image .entry)) (now (epochs .entry)) (length (now (verdicts .entry))))
         × (now (verdicts .exit) ≡ verdictsLeft replica n m (now (image .entry)) (length (now (epochs .entry))) (now (verdicts .entry))) ⌝ }
 {
@@ -147,8 +148,7 @@ fn holds_payload(conditions: &[u8; MAX_SLOTS], m: usize, slot: usize) -> bool
 
 // Whether a slot has a payload.
 pub fn has_payload(image: &[u8], replica: usize, n: usize, m: usize, slot: usize) -> PayloadAnswer
-    ensures { λ r. ⌜ r ≡ payloadAnswer (readRefusal replica n m (now (image .entry)))
-        (hasPayload m (decodeImage replica n m (now (image .entry))) slot) ⌝ }
+    ensures { λ r. ⌜ payloadNumbers r ≡ payloadCallNumbers replica n m (now (image .entry)) slot ⌝ }
 {
     let view = open_image(image, replica, n, m);
     let refusal = view.refusal;

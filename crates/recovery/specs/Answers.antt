@@ -1,8 +1,9 @@
--- The answers of planner, step and run in document 01's numbers.
+-- The answers of step and run in document 01's numbers, each enum by its cases; the planner's are in planner/specs/Answers.antt.
 use Prim.Native.Nat.{ℕ}
-use Rattle.planner.specs.Rules.{Waiting, Ready}
-use Rattle.planner.specs.declared.PlanAnswer.{PlanAnswer}
-use Rattle.planner.specs.declared.PlanAnswer.the-variants as plan
+use mathlib.Core.Bool.{cond}
+use lib.Dec.{eqb}
+use Rattle.image.specs.Answers.{Numbered}
+use Rattle.image.specs.Answers as numbered
 use Rattle.protocol.specs.Call.{Numbers}
 use Rattle.protocol.specs.CallResult.{Result, refused, waiting, ready, stored, recovered, spent, countOf}
 use Rattle.recovery.specs.declared.StepAnswer.{StepAnswer}
@@ -15,11 +16,10 @@ use Rattle.recovery.specs.declared.Outlook.the-variants as outlook
 abbrev pub numbers : ℕ → ℕ → ℕ → ℕ → Numbers
 numbers n m leading present = record { n = n; m = m; leader = leading; present = present }
 
--- the final length; the lowest waiting slot; the refusal
-abbrev pub planAnswerResult : PlanAnswer → Result
-planAnswerResult (plan.Ready l) = ready l
-planAnswerResult (plan.Waiting k) = waiting k
-planAnswerResult (plan.Refused r) = refused r
+-- the result of a plan call by the planner's numbers: the refusal, or status 0 and the final length, else the lowest waiting slot
+abbrev pub planResult : Numbered (ℕ × ℕ) → Result
+planResult (numbered.refused r) = refused r
+planResult (numbered.value x) = cond (eqb (x .0) 0) (ready (x .1)) (waiting (x .1))
 
 -- a store's replica, slot and kind; 01's settled; the lowest waiting slot; the refusal
 abbrev pub stepAnswerResult : StepAnswer → Result

@@ -13,14 +13,15 @@ use Rattle.planner.specs.Setting.{Setting, settingOf}
 use Rattle.planner.specs.Rules.{Answer, Refused, Waiting, Ready, answer, end, firstWaiting}
 use Rattle.planner.specs.Plan.{viewsIn, lentRefusal, planRefusal}
 use Rattle.image.specs.Refusal.{unlessRefused}
-use Rattle.planner.specs.Answers.{answered, planAnswer}
+use Rattle.image.specs.Answers.{Numbered}
+use Rattle.image.specs.Answers as numbered
+use Rattle.planner.specs.Answers.{planNumbers, answerNumbers, planNumbered}
 use Rattle.planner.proofs.CallLaws.{leader-accepted}
 use Rattle.planner.specs.declared.ReplicaRow.{ReplicaRow}
 use Rattle.planner.specs.declared.PlanAnswer.{PlanAnswer}
-use Rattle.planner.specs.declared.PlanAnswer.the-variants as plan-answer
 use Rattle.protocol.specs.Call.{plan}
 use Rattle.protocol.specs.CallResult.{Result, refused, waiting, recovered, spent, countOf, callResult}
-use Rattle.recovery.specs.Answers.{numbers, planAnswerResult, stepAnswerResult, runAnswerResult, counted}
+use Rattle.recovery.specs.Answers.{numbers, planResult, stepAnswerResult, runAnswerResult, counted}
 use Rattle.recovery.specs.declared.StepAnswer.{StepAnswer}
 use Rattle.recovery.specs.declared.RunAnswer.{RunAnswer}
 use Rattle.recovery.specs.declared.RunAnswer.the-variants as run-answer
@@ -58,11 +59,11 @@ module _ (n m leader present : ℕ) (b : Bytes) (bytes rows : ℕ) where
   abbrev result : Result
   result = callResult (numbers n m leader present) (plan bytes rows) b
 
-  answered-refusal : resultRefusal (planAnswerResult (planAnswer R planned)) ≡ R
-  unfolding planAnswer answered
+  answered-refusal : resultRefusal (planResult (planNumbered R planned)) ≡ R
+  unfolding planNumbered answerNumbers
   answered-refusal = go (eqb R 0) planned refl (not-refused n m leader present b bytes rows)
     where
-      go : (t : Bool) (x : Answer) → eqb R 0 ≡ t → (R ≡ 0 → x ≡ Refused → ⊥) → resultRefusal (planAnswerResult (cond t (answered x) (plan-answer.Refused R))) ≡ R
+      go : (t : Bool) (x : Answer) → eqb R 0 ≡ t → (R ≡ 0 → x ≡ Refused → ⊥) → resultRefusal (planResult (cond t (answerNumbers x) (numbered.refused R))) ≡ R
       go true Refused q known = absurd (known (eqb-true _ _ q) refl)
       go true (Waiting k) q known = sym (eqb-true _ _ q)
       go true (Ready l) q known = sym (eqb-true _ _ q)
@@ -70,17 +71,17 @@ module _ (n m leader present : ℕ) (b : Bytes) (bytes rows : ℕ) where
 
   -- by what the planner leaves and what is handed out of its answer
   pub plan-answered :
-      (new old : Bytes) (filled lent : List ReplicaRow) (status number : ℕ) {r : ℕ} {a : PlanAnswer} {after : Bytes} {table : List ReplicaRow} {last-status last-number : ℕ} →
-      (a ≡ planAnswer R planned) × (after ≡ unlessRefused R new old) × (table ≡ unlessRefused R filled lent) →
-      (r ≡ resultRefusal (planAnswerResult a)) × (last-status ≡ resultStatus (planAnswerResult a) status) × (last-number ≡ resultNumber (planAnswerResult a) number) →
+      (new old : Bytes) (filled lent : List ReplicaRow) (status number : ℕ) (a : PlanAnswer) {r : ℕ} {after : Bytes} {table : List ReplicaRow} {last-status last-number : ℕ} →
+      (planNumbers a ≡ planNumbered R planned) × (after ≡ unlessRefused R new old) × (table ≡ unlessRefused R filled lent) →
+      (r ≡ resultRefusal (planResult (planNumbers a))) × (last-status ≡ resultStatus (planResult (planNumbers a)) status) × (last-number ≡ resultNumber (planResult (planNumbers a)) number) →
       (r ≡ resultRefusal result)
       × (after ≡ unlessRefused r new old)
       × (table ≡ unlessRefused r filled lent)
       × (last-status ≡ resultStatus result status)
       × (last-number ≡ resultNumber result number)
-  plan-answered new old filled lent status number {r = r} {a = a} left out =
-      let q : planAnswerResult a ≡ result = ap planAnswerResult (left .0) ∙ plan-result (numbers n m leader present) b bytes rows in
-      let same : r ≡ R = out .0 ∙ ap (λ (z : PlanAnswer). resultRefusal (planAnswerResult z)) (left .0) ∙ answered-refusal in (
+  plan-answered new old filled lent status number a {r = r} left out =
+      let q : planResult (planNumbers a) ≡ result = ap planResult (left .0) ∙ plan-result (numbers n m leader present) b bytes rows in
+      let same : r ≡ R = out .0 ∙ ap (λ (z : Numbered (ℕ × ℕ)). resultRefusal (planResult z)) (left .0) ∙ answered-refusal in (
         out .0 ∙ ap resultRefusal q,
         left .1 ∙ ap (λ (z : ℕ). unlessRefused z new old) (sym same),
         left .2 ∙ ap (λ (z : ℕ). unlessRefused z filled lent) (sym same),

@@ -4,8 +4,8 @@ ghost use lib.ListN.{length};
 ghost use Rattle.image.specs.Refusal.{unlessRefused};
 ghost use Rattle.protocol.specs.Call.{step, run};
 ghost use Rattle.protocol.specs.CallResult.{callBytes};
-ghost use Rattle.recovery.specs.Answers.{numbers, planAnswerResult};
-ghost use Rattle.planner.specs.Answers.{planIn, rowsIn};
+ghost use Rattle.recovery.specs.Answers.{numbers, planResult};
+ghost use Rattle.planner.specs.Answers.{planNumbers, planIn, rowsIn};
 ghost use Rattle.ropelog.specs.Clusters.{planCalled, stepCalled, runCalled};
 ghost use Rattle.ropelog.specs.Clusters.{resultRefusal, resultStatus, resultNumber, resultReplica, resultSlot, resultKind, resultStores};
 use planner::PlanAnswer;
@@ -13,9 +13,9 @@ use planner::ReplicaRow;
 
 // Hands out a plan's answer: 0 and the final length, or 1 and the lowest waiting slot; or answers the refusal.
 fn hand_out(answer: PlanAnswer, status: &mut u8, number: &mut usize) -> u8
-    ensures { λ r. ⌜ (r ≡ resultRefusal (planAnswerResult answer))
-        × (now (status .exit) ≡ resultStatus (planAnswerResult answer) (now (status .entry)))
-        × (now (number .exit) ≡ resultNumber (planAnswerResult answer) (now (number .entry))) ⌝ }
+    ensures { λ r. ⌜ (r ≡ resultRefusal (planResult (planNumbers answer)))
+        × (now (status .exit) ≡ resultStatus (planResult (planNumbers answer)) (now (status .entry)))
+        × (now (number .exit) ≡ resultNumber (planResult (planNumbers answer)) (now (number .entry))) ⌝ }
 {
     match answer {
         PlanAnswer::Ready(length) => {

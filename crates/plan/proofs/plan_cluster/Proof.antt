@@ -48,7 +48,7 @@ use Rattle.image.specs.View.{View}
 use Rattle.planner.specs.Setting.{Setting, settingOf}
 use Rattle.planner.specs.Rules.{answer}
 use Rattle.planner.specs.Plan.{viewsIn, planRefusal, planBytes}
-use Rattle.planner.specs.Answers.{planAnswer, rowsOf}
+use Rattle.planner.specs.Answers.{planNumbers, planNumbered, rowsOf}
 use Rattle.planner.specs.Tabulated.{frontRows, Outcome}
 use Rattle.image.specs.Refusal.{unlessRefused}
 use Rattle.planner.proofs.OutcomeLaws.{fill-asks, call-answers, call-fills}
@@ -278,7 +278,7 @@ module _ {M : Type 1} (𝓤 : URA M) (H : Heap 𝓤) (A : Atoms 𝓤) (W : Given
   -- ---- the end
 
   abbrev Fact : PlanAnswer → List ℕ → List ReplicaRow → Type 0
-  Fact e zs ws = (e ≡ planAnswer R (answer S Views)) × (zs ≡ unlessRefused R (planBytes S Views) ys) × (ws ≡ unlessRefused R (rowsOf S Views) rs)
+  Fact e zs ws = (planNumbers e ≡ planNumbered R (answer S Views)) × (zs ≡ unlessRefused R (planBytes S Views) ys) × (ws ≡ unlessRefused R (rowsOf S Views) rs)
 
   exits : (e : PlanAnswer) (w : Val) (zs : List ℕ) (ws : List ReplicaRow) → Fact e zs ws → length zs ≡ length ys → length ws ≡ length rs
       → ent 𝓤 (⋆ 𝓤 H A (Tk ∷ T₂ ∷ ‵ OwnC ∷ ‵ (finally u8 γ₁ zs) ∷ ‵ (finally T.the-row γ₂ ws) ∷ ‵ (PA.the-row .own e (w ∷ [])) ∷ [])) (Post w)

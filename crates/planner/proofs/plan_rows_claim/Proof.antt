@@ -5,13 +5,13 @@ use Rattle.image.specs.Read.{isWhole}
 use Rattle.planner.specs.Setting.{has, settingOf}
 use Rattle.planner.specs.Rules.{majority, mayTruncate, isFaulty, isUsed, isTruncate, isWait, answers, agrees, have, dontHave, donor, rule, end, firstWaiting, answer}
 use Rattle.planner.specs.Plan.{keptByte, ruleByte, planByte, planBytes}
-use Rattle.planner.specs.Answers.{answered}
+use Rattle.planner.specs.Answers.{answerNumbers}
 use Rattle.planner.specs.PlanRows.{away, lacks, faulty, intact, five, ofFive}
 use Rattle.planner.proofs.plan_rows_claim.Statement.{statement}
 use Rattle.planner.proofs.plan_rows_claim.Tie as tie
 
 returns : tie.Need-returns
-unfolding lowest sum oneIf count listed isWhole has settingOf majority mayTruncate isFaulty isUsed isTruncate isWait answers agrees have dontHave donor rule end firstWaiting answer keptByte ruleByte planByte planBytes answered away lacks faulty intact five ofFive
+unfolding lowest sum oneIf count listed isWhole has settingOf majority mayTruncate isFaulty isUsed isTruncate isWait answers agrees have dontHave donor rule end firstWaiting answer keptByte ruleByte planByte planBytes answerNumbers away lacks faulty intact five ofFive
 returns c = record {
   cut-bytes = refl;
   cut-answer = refl;

@@ -46,11 +46,11 @@ use Rattle.planner.specs.declared.PlanAnswer.{PlanAnswer}
 use Rattle.planner.specs.Setting.{Setting, settingOf}
 use Rattle.planner.specs.Rules.{answer}
 use Rattle.planner.specs.Plan.{viewsIn, planRefusal, planBytes}
-use Rattle.planner.specs.Answers.{planAnswer, rowsOf}
+use Rattle.planner.specs.Answers.{planNumbers, planNumbered, rowsOf}
 use Rattle.image.specs.Refusal.{unlessRefused}
 use Rattle.protocol.specs.Call.{plan}
 use Rattle.protocol.specs.CallResult.{Result, callResult}
-use Rattle.recovery.specs.Answers.{numbers, planAnswerResult}
+use Rattle.recovery.specs.Answers.{numbers, planResult}
 use Rattle.ropelog.specs.Clusters.{resultRefusal, resultStatus, resultNumber}
 use Rattle.ropelog.proofs.ClusterCallLaws.{plan-answered}
 use Rattle.planner.proofs.ReplicaRow as T
@@ -298,10 +298,10 @@ module _ {M : Type 1} (𝓤 : URA M) (H : Heap 𝓤) (A : Atoms 𝓤) (W : Given
 
   -- what the planner says of its answer, the last plan and the last rows; and what is then handed out
   abbrev PlanFact : PlanAnswer → List ℕ → List ReplicaRow → Type 0
-  PlanFact r zs ws = (r ≡ planAnswer R (answer S Views)) × (zs ≡ unlessRefused R (planBytes S Views) ys) × (ws ≡ unlessRefused R (rowsOf S Views) rs)
+  PlanFact r zs ws = (planNumbers r ≡ planNumbered R (answer S Views)) × (zs ≡ unlessRefused R (planBytes S Views) ys) × (ws ≡ unlessRefused R (rowsOf S Views) rs)
 
   abbrev HandFact : PlanAnswer → ℕ → ℕ → ℕ → Type 0
-  HandFact r e st nu = (e ≡ resultRefusal (planAnswerResult r)) × (st ≡ resultStatus (planAnswerResult r) status) × (nu ≡ resultNumber (planAnswerResult r) number)
+  HandFact r e st nu = (e ≡ resultRefusal (planResult (planNumbers r))) × (st ≡ resultStatus (planResult (planNumbers r)) status) × (nu ≡ resultNumber (planResult (planNumbers r)) number)
 
   module _ (C : Calls 𝓤 H) (Λ : Loops 𝓤 H) (fm : FmC 𝓤 H (W .laws) C) (known : Known 𝓤 H A mem run C) (l₀ l₁ l₂ l₃ l₄ l₅ l₆ l₇ l₈ l₉ l₁₀ l₁₁ l₁₂ l₁₃ l₁₄ l₁₅ l₁₆ : ℕ) where
     abbrev En : Env 𝓤 H
@@ -334,7 +334,7 @@ module _ {M : Type 1} (𝓤 : URA M) (H : Heap 𝓤) (A : Atoms 𝓤) (W : Given
           returns ! (look ! 40 refl) $ forget ! 8 refl $ forget ! 10 refl $ forget ! 12 refl $ forget ! 14 refl $ forget ! 16 refl $ forget ! 18 refl $ forget ! 20 refl $ forget ! 22 refl $ forget ! 24 refl $ forget ! 26 refl $ forget ! 28 refl $ forget ! 30 refl $ forget ! 32 refl $ forget ! 34 refl $ forget ! 36 refl $ forget ! 38 refl $ forget ! 40 refl $
           move ! (40 ∷ 41 ∷ []) $ free1 ! $ move ! (38 ∷ 39 ∷ []) $ free1 ! $ move ! (36 ∷ 37 ∷ []) $ free1 ! $ move ! (34 ∷ 35 ∷ []) $ free1 ! $ move ! (32 ∷ 33 ∷ []) $ free1 ! $ move ! (30 ∷ 31 ∷ []) $ free1 ! $ move ! (28 ∷ 29 ∷ []) $ free1 ! $ move ! (26 ∷ 27 ∷ []) $ free1 ! $ move ! (24 ∷ 25 ∷ []) $ free1 ! $ move ! (22 ∷ 23 ∷ []) $ free1 ! $ move ! (20 ∷ 21 ∷ []) $ free1 ! $ move ! (18 ∷ 19 ∷ []) $ free1 ! $ move ! (16 ∷ 17 ∷ []) $ free1 ! $ move ! (14 ∷ 15 ∷ []) $ free1 ! $ move ! (12 ∷ 13 ∷ []) $ free1 ! $ move ! (10 ∷ 11 ∷ []) $ free1 ! $ move ! (8 ∷ 9 ∷ []) $ free1 ! $ free0 ! $
           keep ! (4 ∷ 1 ∷ 7 ∷ 6 ∷ 5 ∷ 3 ∷ 2 ∷ 0 ∷ []) $
-          by ! (exits e z zs ws (ts .1 .0) (ts .1 .1 .0) (plan-answered n m ld pr (d .now) (length ys) (length rs) (planBytes S Views) ys (rowsOf S Views) rs status number planned out) same same₂))))))
+          by ! (exits e z zs ws (ts .1 .0) (ts .1 .1 .0) (plan-answered n m ld pr (d .now) (length ys) (length rs) (planBytes S Views) ys (rowsOf S Views) rs status number r planned out) same same₂))))))
 
     abbrev First : List (Item 𝓤)
     First = ‵ (froom lent-ref₄ l₁₆ 0) ∷ ‵ (fdies lent-ref₄ l₁₆) ∷ ‵ (froom lent-ref₃ l₁₅ 0) ∷ ‵ (fdies lent-ref₃ l₁₅) ∷ ‵ (froom lent₂ l₁₄ 0) ∷ ‵ (fdies lent₂ l₁₄) ∷ ‵ (froom lent-ref₂ l₁₃ 0) ∷ ‵ (fdies lent-ref₂ l₁₃) ∷

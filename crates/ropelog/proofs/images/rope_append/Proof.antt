@@ -1,5 +1,6 @@
 use Rattle.ropelog.proofs.ImageCallLaws.{append-done, append-refused}
-use mathlib.Core.Path.{sym, _∙_}
+use mathlib.Core.Path.{sym, ap, _∙_}
+use Rattle.image.specs.Answers.{appendNumbers}
 use borrow.Author.Needs.{needs}
 use Rattle.ropelog.proofs.images.rope_append.Statement.{statement}
 use Rattle.ropelog.proofs.images.rope_append.Tie as tie
@@ -17,13 +18,13 @@ same-length : tie.Need-same-length
 same-length c = search needs
 
 returns : tie.Need-returns
-returns c = append-done _ _ _ _ (c .before .before .before .before .before .append-entry .ensures .1) _ _ (sym (c .before .written .given .1) ∙ c .before .before .before .before .before .append-entry .ensures .0)
+returns c = append-done _ _ _ _ (c .before .before .before .before .before .append-entry .ensures .1) _ _ (ap appendNumbers (sym (c .before .written .given .1)) ∙ c .before .before .before .before .before .append-entry .ensures .0)
 
 same-length-2 : tie.Need-same-length-2
 same-length-2 c = search needs
 
 returns-2 : tie.Need-returns-2
-returns-2 c = append-refused _ _ _ _ (c .before .before .before .before .before .append-entry .ensures .1) _ _ (sym (c .before .refusal .given .1) ∙ c .before .before .before .before .before .append-entry .ensures .0)
+returns-2 c = append-refused _ _ _ _ (c .before .before .before .before .before .append-entry .ensures .1) _ _ (ap appendNumbers (sym (c .before .refusal .given .1)) ∙ c .before .before .before .before .before .append-entry .ensures .0)
 
 pub rope-append-spec : {M : Type 1} → statement M
 rope-append-spec =

@@ -1,5 +1,6 @@
-use Rattle.ropelog.proofs.ImageCallLaws.{format-done, format-refused}
-use mathlib.Core.Path.{sym, _∙_}
+use Rattle.ropelog.proofs.ImageCallLaws.{answered, denied}
+use mathlib.Core.Path.{sym, ap, _∙_}
+use Rattle.image.specs.Answers.{formatNumbers}
 use borrow.Author.Needs.{needs}
 use Rattle.ropelog.proofs.images.rope_format.Statement.{statement}
 use Rattle.ropelog.proofs.images.rope_format.Tie as tie
@@ -17,13 +18,13 @@ same-length : tie.Need-same-length
 same-length c = search needs
 
 returns : tie.Need-returns
-returns c = (format-done _ (sym (c .enum-told .given .1) ∙ c .before .before .before .before .format-image .ensures .0), c .before .before .before .before .format-image .ensures .1)
+returns c = (answered _ _ _ (ap formatNumbers (sym (c .enum-told .given .1)) ∙ c .before .before .before .before .format-image .ensures .0) .0, c .before .before .before .before .format-image .ensures .1)
 
 same-length-2 : tie.Need-same-length-2
 same-length-2 c = search needs
 
 returns-2 : tie.Need-returns-2
-returns-2 c = (format-refused _ _ (sym (c .before .refusal .given .1) ∙ c .before .before .before .before .before .format-image .ensures .0), c .before .before .before .before .before .format-image .ensures .1)
+returns-2 c = (denied _ _ _ (ap formatNumbers (sym (c .before .refusal .given .1)) ∙ c .before .before .before .before .before .format-image .ensures .0) .0, c .before .before .before .before .before .format-image .ensures .1)
 
 pub rope-format-spec : {M : Type 1} → statement M
 rope-format-spec =

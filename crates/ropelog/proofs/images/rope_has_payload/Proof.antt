@@ -1,5 +1,6 @@
 use Rattle.ropelog.proofs.ImageCallLaws.{has-present, has-absent, has-refused}
-use mathlib.Core.Path.{sym, _∙_}
+use mathlib.Core.Path.{sym, ap, _∙_}
+use Rattle.image.specs.Answers.{payloadNumbers}
 use borrow.Author.Needs.{needs}
 use Rattle.ropelog.proofs.images.rope_has_payload.Statement.{statement}
 use Rattle.ropelog.proofs.images.rope_has_payload.Tie as tie
@@ -17,13 +18,13 @@ enum-known-refusal : tie.Need-enum-known-refusal
 enum-known-refusal c = search needs
 
 returns : tie.Need-returns
-returns c = has-present _ _ _ (sym (c .enum-told .given .1) ∙ c .before .before .has-payload .ensures)
+returns c = has-present _ _ _ (ap payloadNumbers (sym (c .enum-told .given .1)) ∙ c .before .before .has-payload .ensures)
 
 returns-2 : tie.Need-returns-2
-returns-2 c = has-absent _ _ _ (sym (c .enum-told2 .given .1) ∙ c .before .before .has-payload .ensures)
+returns-2 c = has-absent _ _ _ (ap payloadNumbers (sym (c .enum-told2 .given .1)) ∙ c .before .before .has-payload .ensures)
 
 returns-3 : tie.Need-returns-3
-returns-3 c = has-refused _ _ _ _ (sym (c .before .refusal .given .1) ∙ c .before .before .before .has-payload .ensures)
+returns-3 c = has-refused _ _ _ _ (ap payloadNumbers (sym (c .before .refusal .given .1)) ∙ c .before .before .before .has-payload .ensures)
 
 pub rope-has-payload-spec : {M : Type 1} → statement M
 rope-has-payload-spec =

@@ -11,7 +11,7 @@ sub-size : tie.Need-sub-size
 sub-size c = search needs
 
 returns : tie.Need-returns
-returns c = payload-part _ _ _ _ _ (c .payload-span .ensures .0) (c .payload-span .ensures .1) _ (omega arith)
+returns c = payload-part _ _ _ _ _ (c .payload-span .ensures .0) (c .payload-span .ensures .1) (omega arith) (omega arith)
 
 pub rope-payload-spec : {M : Type 1} → statement M
 rope-payload-spec = tie.close (tie.spec payload-span-requires sub-size returns)

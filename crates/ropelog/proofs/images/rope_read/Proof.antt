@@ -1,5 +1,6 @@
 use Rattle.ropelog.proofs.ImageCallLaws.{read-done, read-refused}
-use mathlib.Core.Path.{sym, _∙_}
+use mathlib.Core.Path.{sym, ap, _∙_}
+use Rattle.image.specs.Answers.{readNumbers}
 use borrow.Author.Needs.{needs}
 use Rattle.ropelog.proofs.images.rope_read.Statement.{statement}
 use Rattle.ropelog.proofs.images.rope_read.Tie as tie
@@ -20,7 +21,7 @@ same-length-2 : tie.Need-same-length-2
 same-length-2 c = search needs
 
 returns : tie.Need-returns
-returns c = read-done _ _ _ _ _ _ _ _ (c .before .before .before .before .before .before .before .read-image .ensures .1) (c .before .before .before .before .before .before .before .read-image .ensures .2) _ _ (sym (c .before .length .given .1) ∙ c .before .before .before .before .before .before .before .read-image .ensures .0)
+returns c = read-done _ _ _ _ _ _ _ _ (c .before .before .before .before .before .before .before .read-image .ensures .1) (c .before .before .before .before .before .before .before .read-image .ensures .2) _ _ (ap readNumbers (sym (c .before .length .given .1)) ∙ c .before .before .before .before .before .before .before .read-image .ensures .0)
 
 same-length-3 : tie.Need-same-length-3
 same-length-3 c = search needs
@@ -29,7 +30,7 @@ same-length-4 : tie.Need-same-length-4
 same-length-4 c = search needs
 
 returns-2 : tie.Need-returns-2
-returns-2 c = read-refused _ _ _ _ _ _ _ _ (c .before .before .before .before .before .before .before .read-image .ensures .1) (c .before .before .before .before .before .before .before .read-image .ensures .2) _ _ (sym (c .before .refusal .given .1) ∙ c .before .before .before .before .before .before .before .read-image .ensures .0)
+returns-2 c = read-refused _ _ _ _ _ _ _ _ (c .before .before .before .before .before .before .before .read-image .ensures .1) (c .before .before .before .before .before .before .before .read-image .ensures .2) _ _ (ap readNumbers (sym (c .before .refusal .given .1)) ∙ c .before .before .before .before .before .before .before .read-image .ensures .0)
 
 pub rope-read-spec : {M : Type 1} → statement M
 rope-read-spec =
