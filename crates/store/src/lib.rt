@@ -40,7 +40,7 @@ fn copy_entry(cluster: &mut [u8], m: usize, c: usize, k: usize, donor: usize)
     let entry = load_entry(&cluster[from..from_end]);
     let to = entry_in(m, c, k);
     let to_end = to + ENTRY_SIZE;
-    copy::copy_bytes(&mut cluster[to..to_end], &entry);
+    write::write_entry_bytes(&mut cluster[to..to_end], &entry);
 }
 
 // Writes the record of slot k of replica c for an epoch.

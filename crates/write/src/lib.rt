@@ -77,6 +77,18 @@ pub fn write_entry(s: &mut [u8], epoch: u32, index: u32, payload: &[u8])
     put_seal(s, PAYLOAD_AT + size);
 }
 
+// Writes an entry that stands elsewhere, as its 240 bytes.
+pub fn write_entry_bytes(s: &mut [u8], entry: &[u8])
+    requires { ⌜ (length (now s) ≡ entrySize) × (length (now entry) ≡ entrySize) ⌝ }
+    ensures { λ _. ⌜ now (s .exit) ≡ now (entry .entry) ⌝ }
+{
+    let mut i: usize = 0;
+    while i < ENTRY_SIZE {
+        s[i] = entry[i];
+        i += 1;
+    }
+}
+
 // Writes a fresh entry.
 pub fn write_fresh_entry(s: &mut [u8])
     requires { ⌜ length (now s) ≡ entrySize ⌝ }

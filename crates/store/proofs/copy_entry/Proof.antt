@@ -41,24 +41,24 @@ add-to-end c =
     let r = entry-room (p .args .m) (p .args .c) (p .args .k) _ (p .pre .1) (p .pre .2) in
     omega (arith, c .entry-in2 .ensures)
 
-sub-copy-bytes : tie.Need-sub-copy-bytes
-sub-copy-bytes c = search needs
+sub-write-entry-bytes : tie.Need-sub-write-entry-bytes
+sub-write-entry-bytes c = search needs
 
-part-copy-bytes-start : tie.Need-part-copy-bytes-start
-part-copy-bytes-start c = search needs
+part-write-entry-bytes-start : tie.Need-part-write-entry-bytes-start
+part-write-entry-bytes-start c = search needs
 
-part-copy-bytes-end : tie.Need-part-copy-bytes-end
-part-copy-bytes-end c =
+part-write-entry-bytes-end : tie.Need-part-write-entry-bytes-end
+part-write-entry-bytes-end c =
     let p = c .before .before .before .before .before .before in
     let r = entry-room (p .args .m) (p .args .c) (p .args .k) _ (p .pre .1) (p .pre .2) in
     let e = c .entry-in2 .ensures in
     search needs
 
-slice-aggregate-copy-bytes : tie.Need-slice-aggregate-copy-bytes
-slice-aggregate-copy-bytes c = search needs
+slice-aggregate-write-entry-bytes : tie.Need-slice-aggregate-write-entry-bytes
+slice-aggregate-write-entry-bytes c = search needs
 
-copy-bytes-requires : tie.Need-copy-bytes-requires
-copy-bytes-requires c κs = search needs
+write-entry-bytes-requires : tie.Need-write-entry-bytes-requires
+write-entry-bytes-requires c κs = search needs
 
 same-length : tie.Need-same-length
 same-length c = search needs
@@ -69,7 +69,7 @@ returns c =
     let r = entry-room (p .args .m) (p .args .donor) (p .args .k) _ (p .pre .1) (p .pre .3) in
     let from = c .before .before .before .before .before .before .before .before .before .entry-in .ensures in
     let to = c .before .before .before .before .before .entry-in2 .ensures in
-    rw (← to, ← from) (spliced-copy (p .args .cluster .now) _ _ entrySize (omega arith) (c .before .before .before .before .before .before .load-entry .ensures) (c .before .before .copy-bytes .ensures))
+    rw (← to, ← from) (spliced-copy (p .args .cluster .now) _ _ entrySize (omega arith) (c .before .before .before .before .before .before .load-entry .ensures) (c .before .before .write-entry-bytes .ensures))
 
 pub copy-entry-spec : {M : Type 1} → statement M
 copy-entry-spec =
@@ -83,10 +83,10 @@ copy-entry-spec =
     load-entry-requires
     entry-in-requires-2
     add-to-end
-    sub-copy-bytes
-    part-copy-bytes-start
-    part-copy-bytes-end
-    slice-aggregate-copy-bytes
-    copy-bytes-requires
+    sub-write-entry-bytes
+    part-write-entry-bytes-start
+    part-write-entry-bytes-end
+    slice-aggregate-write-entry-bytes
+    write-entry-bytes-requires
     same-length
     returns)

@@ -1,9 +1,26 @@
 -- `make_store` makes the store that it is told.
+use Prim.Native.Nat.{ℕ, _+_}
+use mathlib.Core.Path.{_≡_}
+use Rattle.slices.specs.Parts.{Bytes, part, spliced}
+use Rattle.record.specs.Layout.{entrySize}
+use Rattle.image.specs.Image.{entryAt}
+use Rattle.image.specs.Cluster.{imageAt}
+use Rattle.protocol.specs.Recovery.{after}
+use Rattle.protocol.specs.StepBytes.{afterStoreBytes}
+use Rattle.recovery.specs.NextStore.{storeOf}
+use Rattle.recovery.specs.declared.NextStore.{NextStore}
+use Rattle.recovery.specs.declared.NextStore.the-variants.{Entry}
 use Rattle.recovery.proofs.MadeLaws.{nothing-made, entry-made, record-made, blank-made}
 use native.Mathlib.Omega.{arith}
 use borrow.Author.Needs.{needs}
 use Rattle.store.proofs.make_store.Statement.{statement}
 use Rattle.store.proofs.make_store.Tie as tie
+
+-- Replicas and slot are numbers of their own: another one fails on a fact about numbers.
+entry-at : (m : ℕ) (b : Bytes) {s : NextStore} {c k d : ℕ} {a : Bytes} → s ≡ Entry c k d → (to at from : ℕ) → to ≡ c → at ≡ k → from ≡ d
+    → a ≡ spliced b (imageAt m to + entryAt m at) (part b (imageAt m from + entryAt m at) entrySize)
+    → a ≡ after (storeOf s) b (λ t. afterStoreBytes m t b)
+entry-at m b e to at from i j l h = entry-made m b e to from i l (rw (← j) h)
 
 enum-told : tie.Need-enum-told
 enum-told c = search needs
@@ -39,7 +56,7 @@ same-length : tie.Need-same-length
 same-length c = search needs
 
 returns-2 : tie.Need-returns-2
-returns-2 c = entry-made _ _ (c .before .before .before .before .before .store .given .1) _ _ (omega arith) (omega arith) (c .before .before .copy-entry .ensures)
+returns-2 c = entry-at _ _ (c .before .before .before .before .before .store .given .1) _ _ _ (omega arith) (omega arith) (omega arith) (c .before .before .copy-entry .ensures)
 
 same-length-2 : tie.Need-same-length-2
 same-length-2 c = search needs
