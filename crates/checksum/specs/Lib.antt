@@ -1,3 +1,2 @@
 -- What the contracts of `checksum` cite.
 pub mod Checksum
-pub mod Reference

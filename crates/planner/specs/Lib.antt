@@ -6,5 +6,4 @@ pub mod Sets
 pub mod Survey
 pub mod Answers
 pub mod Tabulated
-pub mod PlanRows
 pub mod AskingClaim

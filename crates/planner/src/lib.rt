@@ -1,7 +1,6 @@
 // The planner: what the replicas answer about each damaged slot of the leader, and what is to be done about it. The code is `survey`'s,
 // `decide`'s, `tabulate`'s and `plan`'s.
 ghost use Rattle.planner.specs.AskingClaim.{AskingClaim};
-ghost use Rattle.planner.specs.PlanRows.{PlanRows};
 use image::MAX_REPLICAS;
 use image::MAX_SLOTS;
 
@@ -40,11 +39,6 @@ pub struct Plan {
     pub end: usize,
     pub waiting: usize,
 }
-
-// Document 01's starred places about the rules.
-pub fn plan_rows_claim()
-    ensures { λ _. ⌜ PlanRows ⌝ }
-{}
 
 // Readable, faulty, the three answers and the majority are what document 01 says, as a theorem.
 pub fn asking_claim()

@@ -2,11 +2,8 @@
 use Prim.Native.Nat.{ℕ, _+_, _^_, _<_, _≤_}
 use mathlib.Core.Path.{_≡_}
 use mathlib.Core.Bool.{true}
-use mathlib.Core.List.{List, _++_}
 use lib.ListN.{length, getD, set}
 use Rattle.slices.specs.Parts.{Bytes}
-use Rattle.checksum.specs.Checksum.{checksumOf}
-use Rattle.column.specs.Column.{column}
 use Rattle.record.specs.Layout.{headerBytes, recordBytes, entryBytes}
 use Rattle.record.specs.Meaning.{Header, proper, Record, good, Entry, intact, broken, isEpoch, readHeader, readRecord, readEntry}
 use Rattle.record.specs.Exactly.{HeaderIs, RecordIs, EntryIs}
@@ -40,7 +37,3 @@ pub record ChangedPayload : Type 0 where
       → readEntry k′ (set (set b (26 + i) x) (26 + j) y) ≡ broken (set (set b (26 + i) x) (26 + j) y)
   -- the bytes changed are the payload's
   pub payload-byte : (k e : ℕ) (p b : Bytes) (j : ℕ) → readEntry k b ≡ intact e p → j < length p → getD b (26 + j) 0 ≡ getD p j 0
-
--- starred: the checksum in the record of epoch 1, index 1
-pub record RecordReference : Type 0 where
-  pub of-one-one : checksumOf (column 11 1 ++ column 11 1) ≡ 546505443

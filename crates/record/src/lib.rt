@@ -1,5 +1,5 @@
 // Headers, records and entries: definitions and laws. The code is `write`'s and `judge`'s.
-ghost use Rattle.record.specs.Claims.{Exact, RoundTrip, ChangedPayload, RecordReference};
+ghost use Rattle.record.specs.Claims.{Exact, RoundTrip, ChangedPayload};
 
 // What a record is found to be.
 pub enum RecordState {
@@ -27,9 +27,4 @@ pub fn round_trip_claim()
 // An intact entry with one or two payload bytes changed is never intact.
 pub fn changed_payload_claim()
     ensures { λ _. ⌜ ChangedPayload ⌝ }
-{}
-
-// Document 01's starred record checksum.
-pub fn record_reference_claim()
-    ensures { λ _. ⌜ RecordReference ⌝ }
 {}
