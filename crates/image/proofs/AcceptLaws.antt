@@ -139,7 +139,7 @@ module _ (c n m : ℕ) (b : Bytes) (s : Sound m (decodeImage c n m b)) where
   pub rising-last : (e : ℕ) → lastEpoch m (decodeImage c n m b) ≤ e → (j : ℕ) → suc j ≡ logLength m (decodeImage c n m b) → epochAt (decodeImage c n m b) j ≤ e
   rising-last e h j q = rw (last-epoch m (decodeImage c n m b) j q) at h
 
--- a starred place
+-- at the last epoch, and one lower
 pub last-epoch-again : (c n m : ℕ) (b : Bytes) (size : ℕ) → readRefusal c n m b ≡ 0 → 0 < logLength m (decodeImage c n m b)
     → logLength m (decodeImage c n m b) < m → size ≤ 200 → AtLastEpoch c n m b size
 last-epoch-again c n m b size r h l z =

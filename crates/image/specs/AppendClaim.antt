@@ -42,7 +42,7 @@ pub record OneMore (c n m : ℕ) (b : Bytes) (i : Image) (len e : ℕ) (p : Byte
   pub verdict-behind : suc len < m → (verdictAt m i (suc len) ≡ 0) × (verdictAt m i′ (suc len) ≡ cond (isFresh (i .entries (suc len))) 0 5)
   pub verdicts-stay : (k : ℕ) → ¬ (k ≡ len) → ¬ (suc k ≡ len) → ¬ (k ≡ suc len) → verdictAt m i′ k ≡ verdictAt m i k
 
--- a starred place: onto a log that is neither empty nor full, appending at the last epoch is accepted, and one lower is 8
+-- onto every log that is neither empty nor full, appending at the last epoch is accepted, and one lower is 8
 pub record AtLastEpoch (c n m : ℕ) (b : Bytes) (size : ℕ) : Type 0 where
   pub same : appendRefusal c n m b (lastEpoch m (decodeImage c n m b)) size ≡ 0
   pub lower : appendRefusal c n m b (lastEpoch m (decodeImage c n m b) - 1) size ≡ 8

@@ -13,3 +13,5 @@ pub mod LentLaws
 pub mod RowLaws
 pub mod FrontLaws
 pub mod OutcomeLaws
+pub mod BitLaws
+pub mod ClusterRefusalLaws

@@ -7,3 +7,4 @@ pub mod Survey
 pub mod Answers
 pub mod Tabulated
 pub mod AskingClaim
+pub mod ClusterRefusalClaim

@@ -1,6 +1,7 @@
 // The planner: what the replicas answer about each damaged slot of the leader, and what is to be done about it. The code is `survey`'s,
 // `decide`'s, `tabulate`'s and `plan`'s.
 ghost use Rattle.planner.specs.AskingClaim.{AskingClaim};
+ghost use Rattle.planner.specs.ClusterRefusalClaim.{ClusterRefusalClaim};
 use image::MAX_REPLICAS;
 use image::MAX_SLOTS;
 
@@ -43,4 +44,9 @@ pub struct Plan {
 // Readable, faulty, the three answers and the majority are what document 01 says, as a theorem.
 pub fn asking_claim()
     ensures { λ _. ⌜ AskingClaim ⌝ }
+{}
+
+// Each refusal of a call about a cluster has document 01's condition and no other, and the lowest that applies is answered.
+pub fn cluster_refusal_claim()
+    ensures { λ _. ⌜ ClusterRefusalClaim ⌝ }
 {}
