@@ -54,7 +54,7 @@ fn copy_slots(
 }
 
 // Surveys the present replicas of a cluster. An image that is refused leaves its replica unreadable.
-pub fn survey_cluster(cluster: &[u8], n: usize, m: usize, present: u32) -> Survey
+fn survey_cluster(cluster: &[u8], n: usize, m: usize, present: u32) -> Survey
     requires { ⌜ (isSize n ≡ true) × (isSlots m ≡ true) × (length (now cluster) ≡ imageAt m n) ⌝ }
     ensures { λ r. ⌜ ((leading : ℕ) → Surveyed n m (viewsIn (settingOf n m leading present) (now (cluster .entry)))
         (r .readable) (r .lengths) (r .conditions) (r .epochs)) ⌝ }

@@ -63,7 +63,7 @@ pub fn log_length(conditions: &[u8; MAX_SLOTS], m: usize) -> usize
 }
 
 // Whether a slot behind the log's end is used.
-pub fn has_gap(conditions: &[u8; MAX_SLOTS], m: usize, length: usize) -> bool
+fn has_gap(conditions: &[u8; MAX_SLOTS], m: usize, length: usize) -> bool
     requires { ⌜ (m ≤ 64) × (length ≤ m) ⌝ }
     ensures { λ r. ⌜ r ≡ not (noGapIn m length (now (conditions .entry))) ⌝ }
 {
@@ -78,7 +78,7 @@ pub fn has_gap(conditions: &[u8; MAX_SLOTS], m: usize, length: usize) -> bool
 }
 
 // Whether a slot has lost both its record and its entry.
-pub fn has_lost(conditions: &[u8; MAX_SLOTS], m: usize) -> bool
+fn has_lost(conditions: &[u8; MAX_SLOTS], m: usize) -> bool
     requires { ⌜ m ≤ 64 ⌝ }
     ensures { λ r. ⌜ r ≡ not (noneLostIn m (now (conditions .entry))) ⌝ }
 {
@@ -93,7 +93,7 @@ pub fn has_lost(conditions: &[u8; MAX_SLOTS], m: usize) -> bool
 }
 
 // Whether a used slot's epoch is below the one before it.
-pub fn falls(epochs: &[u32; MAX_SLOTS], m: usize, length: usize) -> bool
+fn falls(epochs: &[u32; MAX_SLOTS], m: usize, length: usize) -> bool
     requires { ⌜ (m ≤ 64) × (length ≤ m) ⌝ }
     ensures { λ r. ⌜ r ≡ not (risingIn m length (now (epochs .entry))) ⌝ }
 {
