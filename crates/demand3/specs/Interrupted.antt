@@ -21,7 +21,8 @@ module _ (S : Setting) where
     new : {s : Store} → Interrupted b s (afterStoreBytes m s b)
     torn : {c k d : ℕ} (t : Bytes) → length t ≡ 240 → readEntry (suc k) t ≡ broken t → Interrupted b (storeEntry c k d) (spliced b (imageAt m c + entryAt m k) t)
 
-  -- what a call that may make so many stores leaves: all of them made, or interrupted at one of them
+  -- what a call that may make so many stores leaves: all of them made, or interrupted at one of them. This is over the defined steps: no
+  -- contract speaks of what memory holds before a call returns, so cards are written from what a step names (README.md, rule 4)
   pub data LeftBytes (j : ℕ) (b : Bytes) : Bytes → Type 0 where
     whole : LeftBytes j b (stepsBytes S j b)
     interrupted : {a : Bytes} (i : ℕ) (s : Store) → i < j → nextIn S (stepsBytes S i b) ≡ some s → Interrupted (stepsBytes S i b) s a → LeftBytes j b a
