@@ -4,7 +4,7 @@ use mathlib.Core.Path.{_≡_, refl, sym, _∙_, ap, ap₂}
 use mathlib.Core.List.{List, [], _∷_, _++_}
 use native.Mathlib.Omega.{arith}
 use native.Mathlib.Numerals.{add-one}
-use native.Mathlib.Nat.{mod-add-mod, add-mod-mod, mod-eq-of-lt}
+use native.Mathlib.Nat.{mod-add-mod, add-mod-mod}
 use lib.ListN.{length, take, drop, getD, drop-of-length-le, take-append-drop}
 use lib.Seq.{drop-cons, drop-drop}
 use Rattle.checksum.specs.Checksum.{sumA, sumB, checksumOf}
@@ -20,10 +20,6 @@ sumB-lt a b [] h = h
 sumB-lt a b (x ∷ xs) h = sumB-lt ((a + x) % 65535) ((b + (a + x) % 65535) % 65535) xs (omega arith)
 
 -- ---- a chunk, added up without a reduction
-
-pub chunk-start : (s : List ℕ) (a b : ℕ) → a < 65535 → b < 65535
-    → (sumA (a % 65535) (drop 0 s) ≡ sumA a s) × (sumB (a % 65535) (b % 65535) (drop 0 s) ≡ sumB a b s)
-chunk-start s a b ha hb = rw (mod-eq-of-lt ha, mod-eq-of-lt hb) (refl, refl)
 
 pub chunk-stepA : (s : List ℕ) (x i : ℕ) → i < length s → sumA (x % 65535) (drop i s) ≡ sumA ((x + getD s i 0) % 65535) (drop (i + 1) s)
 unfolding sumA

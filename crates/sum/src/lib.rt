@@ -1,54 +1,19 @@
-// The checksum of a slice of bytes.
+// The checksum of a slice of bytes, worked out with additions, comparisons, subtractions and shifts only.
 ghost use mathlib.Core.Path.{_≡_};
 ghost use Prim.Native.Nat.{_+_, _%_, _<_, _≤_};
 ghost use lib.ListN.{length};
 ghost use Rattle.checksum.specs.Checksum.{checksumOf, sumA, sumB};
 
+mod eight;
+mod reduce;
+
 // How many bytes are added up before the sums are reduced: neither can pass 32 bits in so few.
-const CHUNK: usize = 256;
+const CHUNK: usize = 2048;
 
 // The two running sums.
 struct Sums {
     a: u32,
     b: u32,
-}
-
-fn reduce(x: u32) -> u32
-    ensures { λ r. ⌜ r ≡ x % 65535 ⌝ }
-{
-    x % 65535
-}
-
-// The sums after one chunk of bytes, from sums that are reduced.
-fn after_chunk(s: &[u8], a: u32, b: u32) -> Sums
-    requires { ⌜ (length (now s) ≤ 256) × (a < 65535) × (b < 65535) ⌝ }
-    ensures first { λ r. ⌜ r .a ≡ sumA a (now (s .entry)) ⌝ }
-    ensures second { λ r. ⌜ r .b ≡ sumB a b (now (s .entry)) ⌝ }
-{
-    let mut x: u32 = a;
-    let mut y: u32 = b;
-    let mut i: usize = 0;
-    while i < s.len() {
-        x = x + s[i] as u32;
-        y = y + x;
-        i += 1;
-    }
-    Sums {
-        a: reduce(x),
-        b: reduce(y),
-    }
-}
-
-// Where the chunk that begins at i ends, in a slice of that length.
-fn chunk_end(i: usize, length: usize) -> usize
-    requires { ⌜ i < length ⌝ }
-    ensures { λ r. ⌜ (i < r) × (r ≤ length) × (r ≤ i + 256) ⌝ }
-{
-    if CHUNK < length - i {
-        i + CHUNK
-    } else {
-        length
-    }
 }
 
 // The checksum of some bytes.
@@ -65,5 +30,55 @@ pub fn checksum_of(s: &[u8]) -> u32
         b = sums.b;
         i = e;
     }
-    b * 65536 + a
+    (b << 16) + a
+}
+
+// Where the chunk that begins at i ends, in a slice of that length.
+fn chunk_end(i: usize, length: usize) -> usize
+    requires { ⌜ i < length ⌝ }
+    ensures { λ r. ⌜ (i < r) × (r ≤ length) × (r ≤ i + 2048) ⌝ }
+{
+    if CHUNK < length - i {
+        i + CHUNK
+    } else {
+        length
+    }
+}
+
+// The sums after one chunk of bytes, from sums that are reduced. Row after row, x has eight first sums, of the bytes, and y eight second
+// sums, of those in x; the first sum so far goes to the first place.
+fn after_chunk(s: &[u8], a: u32, b: u32) -> Sums
+    requires { ⌜ (length (now s) ≤ 2048) × (a < 65535) × (b < 65535) ⌝ }
+    ensures first { λ r. ⌜ r .a ≡ sumA a (now (s .entry)) ⌝ }
+    ensures second { λ r. ⌜ r .b ≡ sumB a b (now (s .entry)) ⌝ }
+{
+    let mut x = eight::first_only(a);
+    let mut y = eight::first_only(0);
+    let mut i: usize = 0;
+    while i + 8 <= s.len() {
+        x = eight::plus(x, eight::bytes_at(s, i));
+        y = eight::plus(y, x);
+        i += 8;
+    }
+    after_bytes(&s[i..], eight::total(x), eight::second_sum(x, y, b))
+}
+
+// The reduced sums after the bytes that fill no row, from sums that are not reduced: the first is at most 65,534 and 2,048 bytes of 255.
+fn after_bytes(s: &[u8], a: u32, b: u32) -> Sums
+    requires { ⌜ (length (now s) < 8) × (a ≤ 587774) × (b ≤ 2147483647) ⌝ }
+    ensures first { λ r. ⌜ r .a ≡ sumA (a % 65535) (now (s .entry)) ⌝ }
+    ensures second { λ r. ⌜ r .b ≡ sumB (a % 65535) (b % 65535) (now (s .entry)) ⌝ }
+{
+    let mut x: u32 = a;
+    let mut y: u32 = b;
+    let mut i: usize = 0;
+    while i < s.len() {
+        x = x + s[i] as u32;
+        y = y + x;
+        i += 1;
+    }
+    Sums {
+        a: reduce::reduce(x),
+        b: reduce::reduce(y),
+    }
 }

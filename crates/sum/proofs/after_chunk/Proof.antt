@@ -1,86 +1,82 @@
--- The sums are not reduced within a chunk: what is left of the definition, from their remainders on, is the whole.
-use Prim.Native.Nat.{ℕ, _+_, _*_, _%_, _-_, _≤_}
-use mathlib.Core.Path.{_≡_, sym, _∙_}
-use lib.ListN.{length, drop}
-use Rattle.checksum.specs.Checksum.{sumA, sumB}
-use Rattle.checksum.proofs.SumLaws as law
+-- Row after row: what is left of the definition, from what the eight and the eight come to, is the whole.
+use Prim.Native.Nat.{_-_}
+use mathlib.Core.Path.{_∙_}
+use lib.ListN.{length}
+use Rattle.sum.proofs.RowLaws as law
 use borrow.Author.Needs.{needs}
 use native.Mathlib.Omega.{arith}
 use Rattle.sum.proofs.after_chunk.Statement.{statement}
 use Rattle.sum.proofs.after_chunk.Tie as tie
-use Rattle.sum.proofs.after_chunk.Reads as reads
-use Rattle.sum.proofs.after_chunk.Lts as lts
-use Rattle.sum.proofs.reduce.Reads as reduce-reads
 
 abbrev Inv-loop : tie.InvT-loop
-Inv-loop s a b x₀ y₀ i₀ x y i =
-    (i ≤ length s)
-    × (x ≤ 65534 + 255 * i)
-    × (y ≤ 65534 + 130814 * i)
-    × (sumA (x % 65535) (drop i s) ≡ sumA a s)
-    × (sumB (x % 65535) (y % 65535) (drop i s) ≡ sumB a b s)
+Inv-loop s a b x₀ y₀ i₀ x y i = law.Rows s a b x y i
 
 abbrev μ-loop : tie.MeasureT-loop
 μ-loop s a b x₀ y₀ i₀ x y i = length s - i
 
--- src/lib.rt:32:5
+first-only-requires : tie.Need-first-only-requires Inv-loop μ-loop
+first-only-requires c κs = search needs
+
+first-only-requires-2 : tie.Need-first-only-requires-2 Inv-loop μ-loop
+first-only-requires-2 c κs = search needs
+
 loop-holds : tie.Need-loop-holds Inv-loop μ-loop
 loop-holds c =
-    let e = law.chunk-start (c .before .args .s .now) _ _ (c .before .pre .1) (c .before .pre .2) in
-    (search needs, search needs, search needs, e .0, e .1)
+    rw (c .before .first-only .ensures, c .first-only2 .ensures)
+    (law.rows-start _ _ _ _ _ (omega arith) (omega arith) (omega arith) (omega arith))
 
--- src/lib.rt:33:17
-shared-slice-read-x : tie.Need-shared-slice-read-x Inv-loop μ-loop
-shared-slice-read-x c = search needs
+add-loop : tie.Need-add-loop Inv-loop μ-loop
+add-loop c = search needs
 
--- src/lib.rt:33:17
-cast-x : tie.Need-cast-x Inv-loop μ-loop
-cast-x c = omega (arith, c .shared-slice-known2 .given (c .before .before .loop .i))
+bytes-at-requires : tie.Need-bytes-at-requires Inv-loop μ-loop
+bytes-at-requires c κs = search needs
 
--- src/lib.rt:33:13
-add-x : tie.Need-add-x Inv-loop μ-loop
-add-x c = omega (arith, c .shared-slice-known2 .given (c .before .before .loop .i))
+plus-requires : tie.Need-plus-requires Inv-loop μ-loop
+plus-requires c κs = search needs
 
--- src/lib.rt:34:13
-add-y : tie.Need-add-y Inv-loop μ-loop
-add-y c = omega (arith, c .shared-slice-known2 .given (c .before .before .loop .i))
+plus-requires-2 : tie.Need-plus-requires-2 Inv-loop μ-loop
+plus-requires-2 c κs =
+    let row = c .before .bytes-at .ensures in
+    rw (c .plus .ensures) (omega (arith, law.total-added (c .before .before .before .loop .x) (c .before .bytes-at .result), row .1))
 
--- src/lib.rt:35:9
 add-i : tie.Need-add-i Inv-loop μ-loop
 add-i c = search needs
 
--- src/lib.rt:32:5
 loop-less : tie.Need-loop-less Inv-loop μ-loop
 loop-less c = search needs
 
--- src/lib.rt:32:5
 loop-again : tie.Need-loop-again Inv-loop μ-loop
 loop-again c =
-    let byte = c .shared-slice-known2 .given (c .before .before .loop .i) in
-    let known = c .before .before .loop .inv in (
-      search needs,
-      omega (arith, byte),
-      omega (arith, byte),
-      sym (law.chunk-stepA _ _ _ (c .before .loop-test .taken)) ∙ known .3,
-      sym (law.chunk-stepB _ _ _ _ (c .before .loop-test .taken)) ∙ known .4,
-    )
+    let row = c .before .before .bytes-at .ensures in
+    let known = c .before .before .before .before .loop .inv in
+    rw (c .plus2 .ensures, c .before .plus .ensures, row .0)
+    (law.rows-again _ _ _ _ _ _ _ (omega arith) (omega arith) (omega arith) (rw (row .0) at (row .1)) known)
 
--- src/lib.rt:37:15
-reduce-requires : tie.Need-reduce-requires Inv-loop μ-loop
-reduce-requires c κs = search needs
+sub-after-bytes : tie.Need-sub-after-bytes Inv-loop μ-loop
+sub-after-bytes c = search needs
 
--- src/lib.rt:37:29
-reduce-requires-2 : tie.Need-reduce-requires-2 Inv-loop μ-loop
-reduce-requires-2 c κs = search needs
+part-after-bytes-start : tie.Need-part-after-bytes-start Inv-loop μ-loop
+part-after-bytes-start c = search needs
 
--- src/lib.rt:24:1
+part-after-bytes-end : tie.Need-part-after-bytes-end Inv-loop μ-loop
+part-after-bytes-end c = search needs
+
+total-requires : tie.Need-total-requires Inv-loop μ-loop
+total-requires c κs = search needs
+
+second-sum-requires : tie.Need-second-sum-requires Inv-loop μ-loop
+second-sum-requires c κs = search needs
+
+after-bytes-requires : tie.Need-after-bytes-requires Inv-loop μ-loop
+after-bytes-requires c κs = search needs
+
 returns : tie.Need-returns Inv-loop μ-loop
 returns c =
-    let known = c .before .before .before .loop .inv in
-    let end = c .before .before .loop-test .left in (
-      c .before .reduce .ensures ∙ sym (law.chunk-endA _ _ _ end) ∙ known .3,
-      c .reduce2 .ensures ∙ sym (law.chunk-endB _ _ _ _ end) ∙ known .4,
-    )
+    let known = c .before .before .before .before .before .loop .inv in
+    let sums = c .after-bytes .ensures in
+    let first = c .before .before .total .ensures in
+    let second = c .before .second-sum .ensures in
+    (sums .0 ∙ law.rows-endA _ _ _ _ _ _ _ first known, sums .1 ∙ law.rows-endB _ _ _ _ _ _ _ _ first second known)
 
 pub after-chunk-spec : {M : Type 1} → statement M
 after-chunk-spec =
@@ -88,14 +84,20 @@ after-chunk-spec =
     (tie.spec
     Inv-loop
     μ-loop
+    first-only-requires
+    first-only-requires-2
     loop-holds
-    shared-slice-read-x
-    cast-x
-    add-x
-    add-y
+    add-loop
+    bytes-at-requires
+    plus-requires
+    plus-requires-2
     add-i
     loop-less
     loop-again
-    reduce-requires
-    reduce-requires-2
+    sub-after-bytes
+    part-after-bytes-start
+    part-after-bytes-end
+    total-requires
+    second-sum-requires
+    after-bytes-requires
     returns)

@@ -1,18 +1,14 @@
 -- Chunk after chunk: what is left of the definition, from the sums so far on, is the whole.
-use Prim.Native.Nat.{ℕ, _+_, _*_, _%_, _-_, _<_, _≤_}
-use mathlib.Core.Path.{_≡_, refl, sym, _∙_}
-use mathlib.Core.Logic.{⊎-elim}
+use Prim.Native.Nat.{_-_, _<_, _≤_}
+use mathlib.Core.Path.{_≡_, refl, _∙_}
 use lib.ListN.{length, drop}
 use Rattle.checksum.specs.Checksum.{sumA, sumB}
 use Rattle.checksum.proofs.SumLaws as law
+use Rattle.sum.proofs.FoldLaws.{shifted}
 use borrow.Author.Needs.{needs}
 use native.Mathlib.Omega.{arith}
 use Rattle.sum.proofs.checksum_of.Statement.{statement}
 use Rattle.sum.proofs.checksum_of.Tie as tie
-use Rattle.sum.proofs.checksum_of.Reads as reads
-use Rattle.sum.proofs.checksum_of.Lts as lts
-use Rattle.sum.proofs.after_chunk.Reads as after-chunk-reads
-use Rattle.sum.proofs.chunk_end.Reads as chunk-end-reads
 
 abbrev Inv-loop : tie.InvT-loop
 Inv-loop s a₀ b₀ i₀ a b i =
@@ -21,35 +17,27 @@ Inv-loop s a₀ b₀ i₀ a b i =
 abbrev μ-loop : tie.MeasureT-loop
 μ-loop s a₀ b₀ i₀ a b i = length s - i
 
--- src/lib.rt:55:5
 loop-holds : tie.Need-loop-holds Inv-loop μ-loop
 loop-holds c = (search needs, search needs, search needs, refl, refl)
 
--- src/lib.rt:56:13
 chunk-end-requires : tie.Need-chunk-end-requires Inv-loop μ-loop
 chunk-end-requires c κs = search needs
 
--- src/lib.rt:57:32
 sub-after-chunk : tie.Need-sub-after-chunk Inv-loop μ-loop
 sub-after-chunk c = search needs
 
--- src/lib.rt:57:32
 part-after-chunk-start : tie.Need-part-after-chunk-start Inv-loop μ-loop
 part-after-chunk-start c = search needs
 
--- src/lib.rt:57:32
 part-after-chunk-end : tie.Need-part-after-chunk-end Inv-loop μ-loop
 part-after-chunk-end c = search needs
 
--- src/lib.rt:57:13
 after-chunk-requires : tie.Need-after-chunk-requires Inv-loop μ-loop
 after-chunk-requires c κs = search needs
 
--- src/lib.rt:55:5
 loop-less : tie.Need-loop-less Inv-loop μ-loop
 loop-less c = search needs
 
--- src/lib.rt:55:5
 loop-again : tie.Need-loop-again Inv-loop μ-loop
 loop-again c =
     let known = c .before .before .before .before .loop .inv in
@@ -62,17 +50,11 @@ loop-again c =
       rw (sums .0, sums .1) (law.chunksB _ _ _ _ _ on ∙ known .4),
     )
 
--- src/lib.rt:62:5
-mul-result : tie.Need-mul-result Inv-loop μ-loop
-mul-result c = search needs
-
--- src/lib.rt:62:5
 add-result : tie.Need-add-result Inv-loop μ-loop
 add-result c = search needs
 
--- src/lib.rt:49:1
 returns : tie.Need-returns Inv-loop μ-loop
-returns c = law.chunks-end _ _ _ _ (c .loop-test .left) (c .before .loop .inv .3) (c .before .loop .inv .4)
+returns c = shifted _ _ (omega arith) ∙ law.chunks-end _ _ _ _ (c .loop-test .left) (c .before .loop .inv .3) (c .before .loop .inv .4)
 
 pub checksum-of-spec : {M : Type 1} → statement M
 checksum-of-spec =
@@ -88,6 +70,5 @@ checksum-of-spec =
     after-chunk-requires
     loop-less
     loop-again
-    mul-result
     add-result
     returns)

@@ -1,0 +1,2 @@
+-- What the contracts of `sum` cite beside the checksum.
+pub mod Rows
