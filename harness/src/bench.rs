@@ -1,10 +1,12 @@
 //! How long the proved functions take, beside the model's, in one run on one machine.
 
 mod calls;
+mod checksum;
 mod timing;
 
 use std::fmt;
 
+use checksum::ByteTimes;
 use timing::Times;
 
 /// Payload bytes of each entry: a usual line of text, and as many as there may be.
@@ -16,7 +18,8 @@ const SLOTS: [usize; 7] = [1, 2, 4, 8, 16, 32, 64];
 /// Stores in the table of how a recovery grows.
 const STORES: [usize; 5] = [1, 4, 16, 64, 256];
 /// How many calls are timed.
-pub const TIMED: usize = SIZES.len() * (5 + 3 * SHAPES.len()) + 2 * SLOTS.len() + STORES.len();
+pub const TIMED: usize =
+    checksum::LENGTHS.len() + SIZES.len() * (4 + 3 * SHAPES.len()) + 2 * SLOTS.len() + STORES.len();
 
 /// Times a call by the slots and the payload bytes; the other by the replicas first.
 type OfImage = fn(usize, usize) -> Times;
@@ -32,6 +35,7 @@ struct Row {
 
 /// All that is printed.
 pub struct Bench {
+    checksums: [ByteTimes; checksum::LENGTHS.len()],
     rows: Vec<Row>,
     /// By the number of slots: a read, and a plan of seven replicas.
     by_slots: Vec<(usize, Times, Times)>,
@@ -42,6 +46,7 @@ pub struct Bench {
 pub fn bench() -> Bench {
     let most = SIZES[1];
     Bench {
+        checksums: checksum::LENGTHS.map(checksum::byte_times),
         rows: rows(),
         by_slots: SLOTS
             .map(|m| (m, calls::read(m, most), calls::plan(7, m, most)))
@@ -53,12 +58,7 @@ pub fn bench() -> Bench {
 }
 
 fn rows() -> Vec<Row> {
-    let mut rows = vec![Row {
-        name: "checksum, a byte",
-        n: None,
-        m: None,
-        times: SIZES.map(calls::checksum_byte),
-    }];
+    let mut rows = Vec::new();
     let read: OfImage = calls::read;
     for (name, call) in [("read", read), ("append", calls::append)] {
         for m in [8, 64] {
@@ -103,7 +103,6 @@ const HEADINGS: &str = "     proved      model    ratio";
 
 const MEANING: &str = "\
 Times are medians, of one call; ratio is the model's time by the proved function's.
-checksum   of an entry up to its checksum, for each byte
 read       of a full log
 append     of the last slot of a log
 plan       every entry of leader 1 is damaged and to be fetched
@@ -113,6 +112,7 @@ recovery   a run that makes all its stores, m of them
 
 impl fmt::Display for Bench {
     fn fmt(&self, f: &mut fmt::Formatter) -> fmt::Result {
+        self.fmt_checksums(f)?;
         let [few, most] = SIZES.map(|size| format!("{size} payload bytes"));
         writeln!(f, "{:24}{few:>31} |{most:>31}", "")?;
         writeln!(f, "{:16}{:>4}{:>4}{HEADINGS} |{HEADINGS}", "", "n", "m")?;
@@ -128,6 +128,26 @@ impl fmt::Display for Bench {
 }
 
 impl Bench {
+    fn fmt_checksums(&self, f: &mut fmt::Formatter) -> fmt::Result {
+        let (blocks, straight) = ("sums of blocks", "straight loop");
+        writeln!(f, "{:8}{:>11} |{blocks:>20} |{straight:>20}", "", "")?;
+        let by = "    time    ratio";
+        writeln!(f, "{:>8}{:>11} |   {by} |   {by}", "bytes", "proved")?;
+        for times in &self.checksums {
+            let (length, proved) = (times.length, times.proved);
+            write!(f, "{length:>8}{proved:>11}")?;
+            for other in [times.blocks, times.straight] {
+                write!(f, " |{other:>11}{:>9.2}", other.0 / proved.0)?;
+            }
+            writeln!(f)?;
+        }
+        writeln!(
+            f,
+            "The checksum, for each byte. Sums of blocks: 256 bytes are added up between two remainders,\n\
+             as in version 2.0.0. Straight loop: the model's, with two remainders for each byte.\n"
+        )
+    }
+
     fn fmt_by_slots(&self, f: &mut fmt::Formatter) -> fmt::Result {
         let (read, plan) = ("read, for each slot", "plan of n = 7, for each slot");
         writeln!(f, "{:8}{read:>31} |{plan:>31}", "")?;

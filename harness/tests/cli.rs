@@ -247,13 +247,14 @@ fn bench_prints_its_tables() {
         .lines()
         .filter(|line| line.contains("ratio |"))
         .collect();
-    assert_eq!(headings.len(), 3, "{printed}");
+    assert_eq!(headings.len(), 4, "{printed}");
     let timed = |start: &str| {
         let rows = printed.lines().filter(|line| line.contains(" | "));
         rows.filter(|line| line.starts_with(start)).count()
     };
     let rows = [
-        ("checksum, a byte ", 1),
+        ("     226 ", 1),
+        ("    4096 ", 1),
         ("read ", 2),
         ("append ", 2),
         ("plan ", 4),

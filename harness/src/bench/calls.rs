@@ -4,17 +4,10 @@ use std::hint::black_box;
 
 use super::timing::{time, Times};
 use crate::generate::Cluster;
-use crate::model::{entry_offset, image_offset, record_offset, write_entry, ENTRY_LEN, RECORD_LEN};
+use crate::model::{entry_offset, image_offset, record_offset, ENTRY_LEN, RECORD_LEN};
 use crate::proved::clusters::ReplicaRow;
 
 const EPOCH: u32 = 7;
-
-/// The checksum of a full entry's sealed bytes, for each of them.
-pub fn checksum_byte(size: usize) -> Times {
-    let entry = write_entry(EPOCH, 64, &vec![b'7'; size]);
-    let sealed = &entry[..26 + size];
-    time(|side| (side.checksum)(black_box(sealed))).per(sealed.len())
-}
 
 /// n full logs of m slots, each payload of that size.
 fn full_cluster(n: usize, m: usize, size: usize) -> Cluster {

@@ -8,7 +8,7 @@ use std::time::{Duration, Instant};
 use crate::progress;
 use crate::side::{Side, MODEL, PROVED};
 
-/// How long a batch of the model's calls takes at least. It is short, so that few batches are
+/// How long a batch of the slowest side's calls takes at least. It is short, so that few batches are
 /// interrupted by other work of the machine, and the median is one of the others.
 const BATCH: Duration = Duration::from_micros(200);
 /// Each side is timed so often, in turns, while the time lasts.
@@ -60,26 +60,35 @@ impl fmt::Display for Nanoseconds {
 }
 
 /// Times a call by both sides.
-pub fn time<T>(mut call: impl FnMut(&Side) -> T) -> Times {
-    let mut calls = 1;
-    while batch(calls, &MODEL, &mut call) < BATCH {
-        calls *= 2;
-    }
-    let mut proved = Vec::new();
-    let mut model = Vec::new();
-    let start = Instant::now();
-    while model.len() < *ROUNDS.start() || model.len() < *ROUNDS.end() && start.elapsed() < TIME {
-        proved.push(batch(calls, &PROVED, &mut call));
-        model.push(batch(calls, &MODEL, &mut call));
-    }
-    progress::step();
-    let [proved, model] =
-        [proved, model].map(|times| Nanoseconds(median(times).as_nanos() as f64).per(calls));
+pub fn time<T>(call: impl FnMut(&Side) -> T) -> Times {
+    let [proved, model] = in_turns(&[PROVED, MODEL], call);
     Times { proved, model }
 }
 
+/// Times a call by each, in turns. The last is the slowest: its batches are long enough.
+pub fn in_turns<S, T, const N: usize>(
+    sides: &[S; N],
+    mut call: impl FnMut(&S) -> T,
+) -> [Nanoseconds; N] {
+    let mut calls = 1;
+    while batch(calls, &sides[N - 1], &mut call) < BATCH {
+        calls *= 2;
+    }
+    let mut times = [(); N].map(|()| Vec::new());
+    let start = Instant::now();
+    let mut rounds = 0;
+    while rounds < *ROUNDS.start() || rounds < *ROUNDS.end() && start.elapsed() < TIME {
+        for (times, side) in times.iter_mut().zip(sides) {
+            times.push(batch(calls, side, &mut call));
+        }
+        rounds += 1;
+    }
+    progress::step();
+    times.map(|times| Nanoseconds(median(times).as_nanos() as f64).per(calls))
+}
+
 /// The time of so many calls.
-fn batch<T>(calls: usize, side: &Side, call: &mut impl FnMut(&Side) -> T) -> Duration {
+fn batch<S, T>(calls: usize, side: &S, call: &mut impl FnMut(&S) -> T) -> Duration {
     let side = black_box(side);
     let start = Instant::now();
     for _ in 0..calls {

@@ -9,11 +9,14 @@ use crate::model::{ENTRY_LEN, HEADER_LEN, MAX_PAYLOAD, RECORD_LEN};
 /// The widest column that is read.
 pub const WIDEST: usize = 19;
 
+/// The proved code adds up so many bytes before it reduces its sums.
+const CHUNK: usize = 2048;
+
 /// Of lengths around those after which the sums are reduced, or any.
 pub fn checksum_call(rng: &mut Rng) -> Call {
-    let length = match rng.below(3) {
-        0 => 256 * rng.between(1, 3) - 2 + rng.below(5),
-        1 => rng.below(40),
+    let length = match rng.below(8) {
+        0 => CHUNK * rng.between(1, 3) - 9 + rng.below(19),
+        1..=3 => rng.below(40),
         _ => rng.below(600),
     };
     let bytes = match rng.below(4) {
