@@ -64,11 +64,17 @@ pub chunksB : (s : List ℕ) (a b i e : ℕ) → i ≤ e
     → sumB (sumA a (take (e - i) (drop i s))) (sumB a b (take (e - i) (drop i s))) (drop e s) ≡ sumB a b (drop i s)
 chunksB s a b i e h = sym (sumB-append a b (take (e - i) (drop i s)) (drop e s)) ∙ ap (sumB a b) (split s i e h)
 
-pub chunks-end : (s : List ℕ) (a b i : ℕ) → length s ≤ i → sumA a (drop i s) ≡ sumA 1 s → sumB a b (drop i s) ≡ sumB 1 0 s
-    → b * 65536 + a ≡ checksumOf s
-unfolding checksumOf sumA sumB
-chunks-end s a b i h p q =
-    let e : drop i s ≡ [] = drop-of-length-le s h in
-    let p′ : a ≡ sumA 1 s = rw e at p in
-    let q′ : b ≡ sumB 1 0 s = rw e at q in
-    cc
+pub chunks-endA : (s : List ℕ) (a i : ℕ) → length s ≤ i → sumA a (drop i s) ≡ sumA 1 s → a ≡ sumA 1 s
+unfolding sumA
+chunks-endA s a i h p = rw (drop-of-length-le s h) at p
+
+pub chunks-endB : (s : List ℕ) (a b i : ℕ) → length s ≤ i → sumB a b (drop i s) ≡ sumB 1 0 s → b ≡ sumB 1 0 s
+unfolding sumB
+chunks-endB s a b i h p = rw (drop-of-length-le s h) at p
+
+pub combined : (s : List ℕ) (a b : ℕ) → a ≡ sumA 1 s → b ≡ sumB 1 0 s → b * 65536 + a ≡ checksumOf s
+unfolding checksumOf
+combined s a b p q = cc
+
+pub both-lt : (s : List ℕ) (a b : ℕ) → a ≡ sumA 1 s → b ≡ sumB 1 0 s → (a < 65535) × (b < 65535)
+both-lt s a b p q = rw (p, q) (sumA-lt 1 s (omega arith), sumB-lt 1 0 s (omega arith))

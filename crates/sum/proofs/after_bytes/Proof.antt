@@ -13,7 +13,7 @@ abbrev Inv-loop : tie.InvT-loop
 Inv-loop s a b x₀ y₀ i₀ x y i =
     (i ≤ length s)
     × (x ≤ 587774 + 255 * i)
-    × (y ≤ 2147483647 + 589559 * i)
+    × (y ≤ 2147483647 + 595934 * i)
     × (sumA (x % 65535) (drop i s) ≡ sumA (a % 65535) s)
     × (sumB (x % 65535) (y % 65535) (drop i s) ≡ sumB (a % 65535) (b % 65535) s)
 

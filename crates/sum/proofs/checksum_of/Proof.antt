@@ -1,74 +1,39 @@
--- Chunk after chunk: what is left of the definition, from the sums so far on, is the whole.
-use Prim.Native.Nat.{_-_, _<_, _≤_}
-use mathlib.Core.Path.{_≡_, refl, _∙_}
-use lib.ListN.{length, drop}
-use Rattle.checksum.specs.Checksum.{sumA, sumB}
-use Rattle.checksum.proofs.SumLaws as law
-use Rattle.sum.proofs.FoldLaws.{shifted}
+-- Few bytes are added up one by one, more of them in chunks.
+use mathlib.Core.Path.{_∙_}
 use borrow.Author.Needs.{needs}
-use native.Mathlib.Omega.{arith}
+use Rattle.checksum.proofs.SumLaws as law
 use Rattle.sum.proofs.checksum_of.Statement.{statement}
 use Rattle.sum.proofs.checksum_of.Tie as tie
 
-abbrev Inv-loop : tie.InvT-loop
-Inv-loop s a₀ b₀ i₀ a b i =
-    (i ≤ length s) × (a < 65535) × (b < 65535) × (sumA a (drop i s) ≡ sumA 1 s) × (sumB a b (drop i s) ≡ sumB 1 0 s)
+after-bytes-requires : tie.Need-after-bytes-requires
+after-bytes-requires c κs = search needs
 
-abbrev μ-loop : tie.MeasureT-loop
-μ-loop s a₀ b₀ i₀ a b i = length s - i
+combined-requires : tie.Need-combined-requires
+combined-requires c κs = law.both-lt (c .before .before .before .args .s .now) _ _ (c .after-bytes .ensures .0) (c .after-bytes .ensures .1)
 
-loop-holds : tie.Need-loop-holds Inv-loop μ-loop
-loop-holds c = (search needs, search needs, search needs, refl, refl)
+returns : tie.Need-returns
+returns c =
+    let sums = c .before .after-bytes .ensures in
+    c .combined .ensures ∙ law.combined (c .before .before .before .before .args .s .now) _ _ (sums .0) (sums .1)
 
-chunk-end-requires : tie.Need-chunk-end-requires Inv-loop μ-loop
-chunk-end-requires c κs = search needs
+after-chunks-requires : tie.Need-after-chunks-requires
+after-chunks-requires c κs = search needs
 
-sub-after-chunk : tie.Need-sub-after-chunk Inv-loop μ-loop
-sub-after-chunk c = search needs
+combined-requires-2 : tie.Need-combined-requires-2
+combined-requires-2 c κs = law.both-lt (c .before .before .before .args .s .now) _ _ (c .after-chunks .ensures .0) (c .after-chunks .ensures .1)
 
-part-after-chunk-start : tie.Need-part-after-chunk-start Inv-loop μ-loop
-part-after-chunk-start c = search needs
-
-part-after-chunk-end : tie.Need-part-after-chunk-end Inv-loop μ-loop
-part-after-chunk-end c = search needs
-
-after-chunk-requires : tie.Need-after-chunk-requires Inv-loop μ-loop
-after-chunk-requires c κs = search needs
-
-loop-less : tie.Need-loop-less Inv-loop μ-loop
-loop-less c = search needs
-
-loop-again : tie.Need-loop-again Inv-loop μ-loop
-loop-again c =
-    let known = c .before .before .before .before .loop .inv in
-    let sums = c .after-chunk .ensures in
-    let on : c .before .before .before .before .loop .i ≤ c .before .before .chunk-end .result = omega arith in (
-      search needs,
-      rw (sums .0) (law.sumA-lt _ _ (known .1)),
-      rw (sums .1) (law.sumB-lt _ _ _ (known .2)),
-      rw (sums .0) (law.chunksA _ _ _ _ on ∙ known .3),
-      rw (sums .0, sums .1) (law.chunksB _ _ _ _ _ on ∙ known .4),
-    )
-
-add-result : tie.Need-add-result Inv-loop μ-loop
-add-result c = search needs
-
-returns : tie.Need-returns Inv-loop μ-loop
-returns c = shifted _ _ (omega arith) ∙ law.chunks-end _ _ _ _ (c .loop-test .left) (c .before .loop .inv .3) (c .before .loop .inv .4)
+returns-2 : tie.Need-returns-2
+returns-2 c =
+    let sums = c .before .after-chunks .ensures in
+    c .combined2 .ensures ∙ law.combined (c .before .before .before .before .args .s .now) _ _ (sums .0) (sums .1)
 
 pub checksum-of-spec : {M : Type 1} → statement M
 checksum-of-spec =
     tie.close
     (tie.spec
-    Inv-loop
-    μ-loop
-    loop-holds
-    chunk-end-requires
-    sub-after-chunk
-    part-after-chunk-start
-    part-after-chunk-end
-    after-chunk-requires
-    loop-less
-    loop-again
-    add-result
-    returns)
+    after-bytes-requires
+    combined-requires
+    returns
+    after-chunks-requires
+    combined-requires-2
+    returns-2)
