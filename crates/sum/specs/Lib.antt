@@ -1,2 +1,2 @@
--- What the contracts of `sum` cite beside the checksum.
+-- What the contracts of `sum` cite beside the checksum. Rows is for proofs only.
 pub mod Rows
