@@ -50,7 +50,7 @@ typedef char rope_needs_64_bit_sizes[sizeof(size_t) == 8 ? 1 : -1];
 /* CHANGELOG.md says what a version promises. */
 #define ROPE_VERSION_MAJOR 2
 #define ROPE_VERSION_MINOR 0
-#define ROPE_VERSION_PATCH 0
+#define ROPE_VERSION_PATCH 1
 #define ROPE_VERSION "2.0.1"
 
 /* ---- Sizes, in bytes ---------------------------------------------------------------------------------------------------------- */
