@@ -19,18 +19,36 @@ unfolding sumB
 sumB-lt a b [] h = h
 sumB-lt a b (x ∷ xs) h = sumB-lt ((a + x) % 65535) ((b + (a + x) % 65535) % 65535) xs (omega arith)
 
--- ---- a chunk, added up without a reduction
+-- ---- some bytes, added up without a reduction
+
+unfoldable pub plainA : ℕ → List ℕ → ℕ
+plainA a [] = a
+plainA a (x ∷ xs) = plainA (a + x) xs
+
+unfoldable pub plainB : ℕ → ℕ → List ℕ → ℕ
+plainB a b [] = b
+plainB a b (x ∷ xs) = plainB (a + x) (b + (a + x)) xs
+
+pub reducedA : (a : ℕ) (xs ys : List ℕ) → sumA (a % 65535) (xs ++ ys) ≡ sumA (plainA a xs % 65535) ys
+unfolding sumA plainA
+reducedA a [] ys = refl
+reducedA a (x ∷ xs) ys = ap (λ (t : ℕ). sumA t (xs ++ ys)) (mod-add-mod _ _ _) ∙ reducedA (a + x) xs ys
+
+pub reducedB : (a b : ℕ) (xs ys : List ℕ) → sumB (a % 65535) (b % 65535) (xs ++ ys) ≡ sumB (plainA a xs % 65535) (plainB a b xs % 65535) ys
+unfolding sumB plainA plainB
+reducedB a b [] ys = refl
+reducedB a b (x ∷ xs) ys =
+    ap₂ (λ (t u : ℕ). sumB t u (xs ++ ys)) (mod-add-mod _ _ _) (simp (mod-add-mod, add-mod-mod) refl)
+    ∙ reducedB (a + x) (b + (a + x)) xs ys
 
 pub chunk-stepA : (s : List ℕ) (x i : ℕ) → i < length s → sumA (x % 65535) (drop i s) ≡ sumA ((x + getD s i 0) % 65535) (drop (i + 1) s)
-unfolding sumA
-chunk-stepA s x i below = rw (add-one, drop-cons s i 0) (ap (λ (a : ℕ). sumA a (drop (suc i) s)) (mod-add-mod _ _ _))
+unfolding plainA
+chunk-stepA s x i below = rw (add-one, drop-cons s i 0) (reducedA x (getD s i 0 ∷ []) (drop (suc i) s))
 
 pub chunk-stepB : (s : List ℕ) (x y i : ℕ) → i < length s
     → sumB (x % 65535) (y % 65535) (drop i s) ≡ sumB ((x + getD s i 0) % 65535) ((y + (x + getD s i 0)) % 65535) (drop (i + 1) s)
-unfolding sumB
-chunk-stepB s x y i below =
-    rw (add-one, drop-cons s i 0)
-    (ap₂ (λ (a b : ℕ). sumB a b (drop (suc i) s)) (mod-add-mod _ _ _) (simp (mod-add-mod, add-mod-mod) refl))
+unfolding plainA plainB
+chunk-stepB s x y i below = rw (add-one, drop-cons s i 0) (reducedB x y (getD s i 0 ∷ []) (drop (suc i) s))
 
 pub chunk-endA : (s : List ℕ) (x i : ℕ) → length s ≤ i → sumA (x % 65535) (drop i s) ≡ x % 65535
 unfolding sumA
@@ -41,6 +59,12 @@ unfolding sumB
 chunk-endB s x y i h = rw (drop-of-length-le s h) refl
 
 -- ---- chunk after chunk
+
+pub chunks-startA : (s : List ℕ) (a : ℕ) → a ≡ 1 → sumA a (drop 0 s) ≡ sumA 1 s
+chunks-startA s a p = rw p refl
+
+pub chunks-startB : (s : List ℕ) (a b : ℕ) → a ≡ 1 → b ≡ 0 → sumB a b (drop 0 s) ≡ sumB 1 0 s
+chunks-startB s a b p q = rw (p, q) refl
 
 pub sumA-append : (a : ℕ) (xs ys : List ℕ) → sumA a (xs ++ ys) ≡ sumA (sumA a xs) ys
 unfolding sumA
@@ -72,9 +96,11 @@ pub chunks-endB : (s : List ℕ) (a b i : ℕ) → length s ≤ i → sumB a b (
 unfolding sumB
 chunks-endB s a b i h p = rw (drop-of-length-le s h) at p
 
-pub combined : (s : List ℕ) (a b : ℕ) → a ≡ sumA 1 s → b ≡ sumB 1 0 s → b * 65536 + a ≡ checksumOf s
-unfolding checksumOf
-combined s a b p q = cc
+-- ---- the sums of all bytes, from u and v on
 
-pub both-lt : (s : List ℕ) (a b : ℕ) → a ≡ sumA 1 s → b ≡ sumB 1 0 s → (a < 65535) × (b < 65535)
-both-lt s a b p q = rw (p, q) (sumA-lt 1 s (omega arith), sumB-lt 1 0 s (omega arith))
+pub combined : (s : List ℕ) (a b u v : ℕ) → u ≡ 1 → v ≡ 0 → a ≡ sumA u s → b ≡ sumB u v s → b * 65536 + a ≡ checksumOf s
+unfolding checksumOf
+combined s a b u v hu hv p q = rw (p, q, hu, hv) refl
+
+pub both-lt : (s : List ℕ) (a b u v : ℕ) → u ≡ 1 → v ≡ 0 → a ≡ sumA u s → b ≡ sumB u v s → (a < 65535) × (b < 65535)
+both-lt s a b u v hu hv p q = rw (p, q, hu, hv) (sumA-lt 1 s (omega arith), sumB-lt 1 0 s (omega arith))

@@ -3,34 +3,12 @@ use Prim.Native.Nat.{ℕ, suc, _+_, _*_, _%_, _-_, _<_, _≤_}
 use mathlib.Core.Path.{_≡_, refl, sym, _∙_, ap, ap₂}
 use mathlib.Core.List.{List, [], _∷_, _++_}
 use native.Mathlib.Omega.{arith}
-use native.Mathlib.Nat.{mod-add-mod, add-mod-mod}
 use lib.ListN.{length, take, drop, getD, length-drop}
 use lib.Seq.{drop-cons, take-all}
 use Rattle.checksum.specs.Checksum.{sumA, sumB}
+use Rattle.checksum.proofs.SumLaws.{plainA, plainB, reducedA, reducedB}
 use Rattle.sum.specs.declared.eight.Eight.{Eight}
 use Rattle.sum.specs.Rows.{rowAt, alone, added, totalOf, weightedOf}
-
--- ---- the sums over some bytes, not reduced
-
-unfoldable plainA : ℕ → List ℕ → ℕ
-plainA a [] = a
-plainA a (x ∷ xs) = plainA (a + x) xs
-
-unfoldable plainB : ℕ → ℕ → List ℕ → ℕ
-plainB a b [] = b
-plainB a b (x ∷ xs) = plainB (a + x) (b + (a + x)) xs
-
-reducedA : (a : ℕ) (xs ys : List ℕ) → sumA (a % 65535) (xs ++ ys) ≡ sumA (plainA a xs % 65535) ys
-unfolding sumA plainA
-reducedA a [] ys = refl
-reducedA a (x ∷ xs) ys = ap (λ (t : ℕ). sumA t (xs ++ ys)) (mod-add-mod _ _ _) ∙ reducedA (a + x) xs ys
-
-reducedB : (a b : ℕ) (xs ys : List ℕ) → sumB (a % 65535) (b % 65535) (xs ++ ys) ≡ sumB (plainA a xs % 65535) (plainB a b xs % 65535) ys
-unfolding sumB plainA plainB
-reducedB a b [] ys = refl
-reducedB a b (x ∷ xs) ys =
-    ap₂ (λ (t u : ℕ). sumB t u (xs ++ ys)) (mod-add-mod _ _ _) (simp (mod-add-mod, add-mod-mod) refl)
-    ∙ reducedB (a + x) (b + (a + x)) xs ys
 
 -- ---- one row
 

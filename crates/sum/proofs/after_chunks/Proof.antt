@@ -1,6 +1,6 @@
 -- Chunk after chunk: what is left of the definition, from the sums so far on, is the whole.
 use Prim.Native.Nat.{_-_, _<_, _≤_}
-use mathlib.Core.Path.{_≡_, refl, _∙_}
+use mathlib.Core.Path.{_≡_, _∙_}
 use lib.ListN.{length, drop}
 use Rattle.checksum.specs.Checksum.{sumA, sumB}
 use Rattle.checksum.proofs.SumLaws as law
@@ -17,7 +17,7 @@ abbrev μ-loop : tie.MeasureT-loop
 μ-loop s a₀ b₀ i₀ a b i = length s - i
 
 loop-holds : tie.Need-loop-holds Inv-loop μ-loop
-loop-holds c = (search needs, search needs, search needs, refl, refl)
+loop-holds c = (search needs, search needs, search needs, law.chunks-startA _ _ (omega arith), law.chunks-startB _ _ _ (omega arith) (omega arith))
 
 chunk-end-requires : tie.Need-chunk-end-requires Inv-loop μ-loop
 chunk-end-requires c κs = search needs

@@ -53,7 +53,17 @@ byte-at-requires-8 c κs = search needs
 returns : tie.Need-returns
 unfolding rowAt
 returns c =
-    (rw (c .before .before .before .before .before .before .before .byte-at .ensures .0, c .before .before .before .before .before .before .byte-at2 .ensures .0, c .before .before .before .before .before .byte-at3 .ensures .0, c .before .before .before .before .byte-at4 .ensures .0, c .before .before .before .byte-at5 .ensures .0, c .before .before .byte-at6 .ensures .0, c .before .byte-at7 .ensures .0, c .byte-at8 .ensures .0) refl, omega (arith, c .before .before .before .before .before .before .before .byte-at .ensures .1, c .before .before .before .before .before .before .byte-at2 .ensures .1, c .before .before .before .before .before .byte-at3 .ensures .1, c .before .before .before .before .byte-at4 .ensures .1, c .before .before .before .byte-at5 .ensures .1, c .before .before .byte-at6 .ensures .1, c .before .byte-at7 .ensures .1, c .byte-at8 .ensures .1))
+    let first = c .before .before .before .before .before .before .before .byte-at .ensures in
+    let second = c .before .before .before .before .before .before .byte-at2 .ensures in
+    let third = c .before .before .before .before .before .byte-at3 .ensures in
+    let fourth = c .before .before .before .before .byte-at4 .ensures in
+    let fifth = c .before .before .before .byte-at5 .ensures in
+    let sixth = c .before .before .byte-at6 .ensures in
+    let seventh = c .before .byte-at7 .ensures in
+    let eighth = c .byte-at8 .ensures in (
+      rw (first .0, second .0, third .0, fourth .0, fifth .0, sixth .0, seventh .0, eighth .0) refl,
+      omega (arith, first .1, second .1, third .1, fourth .1, fifth .1, sixth .1, seventh .1, eighth .1),
+    )
 
 pub bytes-at-spec : {M : Type 1} → statement M
 bytes-at-spec =

@@ -1,8 +1,13 @@
+use Prim.Native.Nat.{ℕ, _*_, _%_, _/_, _-_, _<_}
+use mathlib.Core.Path.{_≡_}
 use native.Mathlib.Omega.{arith}
 use borrow.Author.Needs.{needs}
-use Rattle.sum.proofs.FoldLaws.{lower}
 use Rattle.sum.proofs.reduce.folded.Statement.{statement}
 use Rattle.sum.proofs.reduce.folded.Tie as tie
+
+-- the lower half is what the upper leaves
+lower : (x : ℕ) → x < 4294967296 → x - x / 65536 * 65536 % 4294967296 ≡ x % 65536
+lower x h = omega arith
 
 sub-result : tie.Need-sub-result
 sub-result c = search needs
