@@ -161,7 +161,8 @@ static void check_recovery(void) {
     uint64_t stores = 77;
     make_cluster(cluster);
     check_plan(cluster, sizeof cluster);
-    CHECK(rope_step(cluster, sizeof cluster, 4, M, 1, 7, &status, &replica, &slot, &kind) == ROPE_REFUSED_REPLICA_COUNT);
+    CHECK(rope_step(cluster, sizeof cluster, 2, M, 1, 7, &status, &replica, &slot, &kind) == ROPE_REFUSED_REPLICA_COUNT);
+    CHECK(rope_step(cluster, sizeof cluster, 8, M, 1, 7, &status, &replica, &slot, &kind) == ROPE_REFUSED_REPLICA_COUNT);
     CHECK(status == 77 && replica == 77 && slot == 77 && kind == 77);
     CHECK(rope_step(cluster, sizeof cluster, N, M, 1, 5, &status, &replica, &slot, &kind) == ROPE_DONE);
     CHECK(status == ROPE_WAITING && replica == 77 && slot == 1 && kind == 77);
@@ -179,6 +180,32 @@ static void check_recovery(void) {
     CHECK(rope_step(cluster, sizeof cluster, N, M, 1, 7, &status, &replica, &slot, &kind) == ROPE_DONE && status == ROPE_RECOVERED);
 }
 
+/* Replica 1 alone has slot 1, and its entry is spoilt; the first d others are present and do not have it. */
+static void check_majority(size_t n, size_t needed) {
+    uint8_t cluster[ROPE_CLUSTER_SIZE(ROPE_MAX_REPLICAS, 1)], plan = 77, status = 77;
+    rope_row rows[ROPE_MAX_REPLICAS];
+    size_t replica, d, slot = 0, number = 77;
+    for (replica = 1; replica <= n; replica++) {
+        CHECK(rope_format(cluster + ROPE_IMAGE_AT(1, replica), ROPE_IMAGE_SIZE(1), replica, n, 1) == ROPE_DONE);
+    }
+    CHECK(rope_append(cluster, ROPE_IMAGE_SIZE(1), 1, n, 1, 1, bytes_of("one"), 3, &slot) == ROPE_DONE);
+    cluster[ROPE_ENTRY_AT(1, 1) + 26] ^= 1;
+    for (d = 0; d < n; d++) {
+        CHECK(rope_plan(cluster, ROPE_CLUSTER_SIZE(n, 1), n, 1, 1, ROPE_ALL(d + 1), &plan, 1, rows, n, &status, &number) == ROPE_DONE);
+        CHECK(plan == (d < needed ? ROPE_PLAN_WAIT : ROPE_PLAN_TRUNCATE));
+        CHECK(status == (d < needed ? ROPE_PLAN_WAITING : ROPE_PLAN_READY) && number == (d < needed ? 1u : 0u));
+    }
+}
+
+static void check_every_n(void) {
+    static const size_t needed[] = {2, 3, 3, 4, 4};
+    size_t n;
+    CHECK(sizeof needed / sizeof needed[0] == ROPE_MAX_REPLICAS - ROPE_MIN_REPLICAS + 1);
+    for (n = ROPE_MIN_REPLICAS; n <= ROPE_MAX_REPLICAS; n++) {
+        check_majority(n, needed[n - ROPE_MIN_REPLICAS]);
+    }
+}
+
 int main(void) {
     check_version_and_sizes();
     check_columns();
@@ -186,6 +213,7 @@ int main(void) {
     check_entries();
     check_image();
     check_recovery();
+    check_every_n();
     printf("%d checks hold\n", checks);
     return 0;
 }

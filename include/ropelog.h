@@ -1,6 +1,6 @@
 /* The rope log for C: every function of target/staticlib/libropelog.a, which `rt staticlib ropelog` writes.
  *
- * Words. A replica is a cabinet with its memory card, a cluster is all n of them, n being 3, 5 or 7. Replicas are numbered 1 to n.
+ * Words. A replica is a cabinet with its memory card, a cluster is all n of them, n being 3 to 7. Replicas are numbered 1 to n.
  * An image is the content of one card: a header, then m records, then m entries, m being 1 to 64. Slot k of the log, counted from 1,
  * has record k (its epoch and index) and entry k (its epoch, index and payload). A slot is used if its record is not blank. The log's
  * length is the number of used slots. A cluster's buffer is n images end to end, all with the same m, replica 1 first.
@@ -49,9 +49,9 @@ typedef char rope_needs_64_bit_sizes[sizeof(size_t) == 8 ? 1 : -1];
 
 /* CHANGELOG.md says what a version promises. */
 #define ROPE_VERSION_MAJOR 2
-#define ROPE_VERSION_MINOR 0
-#define ROPE_VERSION_PATCH 1
-#define ROPE_VERSION "2.0.1"
+#define ROPE_VERSION_MINOR 1
+#define ROPE_VERSION_PATCH 0
+#define ROPE_VERSION "2.1.0"
 
 /* ---- Sizes, in bytes ---------------------------------------------------------------------------------------------------------- */
 
@@ -60,6 +60,7 @@ typedef char rope_needs_64_bit_sizes[sizeof(size_t) == 8 ? 1 : -1];
 #define ROPE_ENTRY_SIZE 240 /* epoch, index, length, payload, checksum, newline, spaces to the end */
 #define ROPE_MAX_PAYLOAD 200 /* bytes of payload in one entry, of any values */
 #define ROPE_MAX_SLOTS 64
+#define ROPE_MIN_REPLICAS 3
 #define ROPE_MAX_REPLICAS 7
 
 /* An image of m slots has 28 + 274 * m bytes, and a cluster n times as many. */
@@ -86,7 +87,7 @@ typedef char rope_needs_64_bit_sizes[sizeof(size_t) == 8 ? 1 : -1];
 enum rope_refusal {
     ROPE_DONE = 0,                      /* not refused */
     ROPE_REFUSED_SLOT_COUNT = 1,        /* m is not 1 to 64 */
-    ROPE_REFUSED_REPLICA_COUNT = 2,     /* n is not 3, 5 or 7, or the replica of an image is not 1 to n */
+    ROPE_REFUSED_REPLICA_COUNT = 2,     /* n is not 3 to 7, or the replica of an image is not 1 to n */
     ROPE_REFUSED_BUFFER_LENGTH = 3,     /* the buffer of an image, a cluster or a piece has the wrong length */
     ROPE_REFUSED_HEADER = 4,            /* the header is not the one that is written for this replica, n and m */
     ROPE_REFUSED_USED_AFTER_BLANK = 5,  /* a used slot stands after a blank record */

@@ -21,7 +21,7 @@ impl Geometry {
     /// # Errors
     ///
     /// - [`Refusal::SlotCount`]: m is not 1 to 64.
-    /// - [`Refusal::ReplicaCount`]: n is not 3, 5 or 7.
+    /// - [`Refusal::ReplicaCount`]: n is not 3 to 7.
     pub fn new(n: usize, m: usize) -> Result<Geometry, Refusal> {
         judge(1, n, m)?;
         Ok(Geometry { n, m })

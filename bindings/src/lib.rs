@@ -64,5 +64,7 @@ pub const ENTRY_LEN: usize = 240;
 pub const MAX_PAYLOAD: usize = 200;
 /// The most slots that an image has.
 pub const MAX_SLOTS: usize = 64;
+/// The fewest replicas that a cluster has.
+pub const MIN_REPLICAS: usize = 3;
 /// The most replicas that a cluster has.
 pub const MAX_REPLICAS: usize = 7;

@@ -12,7 +12,7 @@ use crate::exported::no_such;
 pub enum Refusal {
     /// 1: m, the number of slots, is not 1 to 64.
     SlotCount = 1,
-    /// 2: n, the number of replicas, is not 3, 5 or 7, or the replica of an image is not 1 to n.
+    /// 2: n, the number of replicas, is not 3 to 7, or the replica of an image is not 1 to n.
     ReplicaCount = 2,
     /// 3: the buffer of an image, a cluster or a piece has the wrong length.
     BufferLength = 3,
@@ -76,9 +76,7 @@ impl Refusal {
     fn meaning(self) -> &'static str {
         match self {
             Refusal::SlotCount => "the number of slots is not 1 to 64",
-            Refusal::ReplicaCount => {
-                "there are not 3, 5 or 7 replicas, or there is no such replica"
-            }
+            Refusal::ReplicaCount => "there are not 3 to 7 replicas, or there is no such replica",
             Refusal::BufferLength => "a buffer has the wrong length",
             Refusal::Header => "the header is not this replica's",
             Refusal::UsedAfterBlank => "a used slot stands after a blank record",

@@ -70,6 +70,50 @@ fn assert_refused(
     assert_eq!(lent, cluster);
 }
 
+/// The leader alone has slot 1, and its entry is spoilt: so many don't-haves of n cut it, fewer wait.
+#[test]
+fn dont_haves_of_every_n() {
+    for (n, needed) in [(3, 2), (4, 3), (5, 3), (6, 4), (7, 4)] {
+        let mut cluster = Cluster::fresh(n, 1);
+        cluster.append(&[1], 1, b"one");
+        cluster.spoil_entry(1, 1);
+        for dont_have in 0..n {
+            let present: Vec<usize> = (1..=1 + dont_have).collect();
+            let plan = planned(&cluster, cluster.set(&present));
+            let (action, answer) = if dont_have < needed {
+                (PlanAction::Wait, PlanAnswer::Waiting { slot: 1 })
+            } else {
+                (PlanAction::Truncate, PlanAnswer::Ready { length: 0 })
+            };
+            assert_eq!(plan.actions(), [action], "{dont_have} of {n}");
+            assert_eq!(plan.answer(), answer, "{dont_have} of {n}");
+        }
+    }
+}
+
+/// A cluster of each even size is recovered, and every replica then holds the log.
+#[test]
+fn even_clusters_recover() {
+    for n in [4, 6] {
+        let mut cluster = Cluster::fresh(n, 2);
+        let holders: Vec<usize> = (1..=n / 2 + 1).collect();
+        cluster.append(&holders, 1, b"one");
+        cluster.spoil_entry(1, 1);
+        cluster.spoil_record(2, 1);
+        let all = cluster.geometry.all_present();
+        let enough = cluster.geometry.enough_stores();
+        assert!(matches!(
+            ran(&mut cluster, all, enough),
+            RunAnswer::Recovered { .. }
+        ));
+        for number in 1..=n {
+            let replica = cluster.replica(number);
+            let found = payload(cluster.image(number), cluster.geometry, replica, 1);
+            assert_eq!(found, b"one", "{number} of {n}");
+        }
+    }
+}
+
 #[test]
 fn every_action() {
     let mut cluster = Cluster::fresh(5, 7);

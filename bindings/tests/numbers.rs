@@ -4,6 +4,7 @@ mod common;
 
 use common::{epoch, Cluster};
 use ropelog::{Epoch, Geometry, PlanAction, Refusal, ReplicaSet, StoreKind, Verdict};
+use ropelog::{MAX_REPLICAS, MIN_REPLICAS};
 
 #[test]
 fn geometries() {
@@ -11,7 +12,7 @@ fn geometries() {
         for m in [0, 1, 2, 63, 64, 65, usize::MAX] {
             let expected = if !(1..=64).contains(&m) {
                 Err(Refusal::SlotCount)
-            } else if ![3, 5, 7].contains(&n) {
+            } else if !(MIN_REPLICAS..=MAX_REPLICAS).contains(&n) {
                 Err(Refusal::ReplicaCount)
             } else {
                 Ok((n, m))

@@ -35,6 +35,8 @@ pub fn samples() -> Vec<Sample> {
         lost_record(),
         unconfirmed_tail(),
         waiting(),
+        four_replicas(),
+        six_replicas(),
         refused_header(),
         unreadable_follower(),
     ]
@@ -64,6 +66,15 @@ fn agreeing(n: usize) -> Cluster {
 /// Changes the first byte of a payload, behind the columns of 11, 11 and 4.
 fn spoil_entry(cluster: &mut Cluster, replica: usize, slot: usize) {
     cluster.entry_mut(replica, slot)[26] ^= 1;
+}
+
+/// Makes a slot, the last used one, what it is on a fresh card.
+fn never_had(cluster: &mut Cluster, replica: usize, slot: usize) {
+    let fresh = Cluster::fresh(cluster.n, cluster.m);
+    let record = fresh.record(replica, slot);
+    cluster.record_mut(replica, slot).copy_from_slice(record);
+    let entry = fresh.entry(replica, slot);
+    cluster.entry_mut(replica, slot).copy_from_slice(entry);
 }
 
 /// The leader is replica 1, and the set has a bit for each present replica.
@@ -107,11 +118,30 @@ fn unconfirmed_tail() -> Sample {
 fn waiting() -> Sample {
     let mut cluster = agreeing(5);
     spoil_entry(&mut cluster, 1, 3);
-    let fresh = Cluster::fresh(5, 4);
-    cluster.record_mut(2, 3).copy_from_slice(fresh.record(2, 3));
-    cluster.entry_mut(2, 3).copy_from_slice(fresh.entry(2, 3));
+    never_had(&mut cluster, 2, 3);
     spoil_entry(&mut cluster, 3, 3);
     sample("waiting", cluster, &[1, 2, 3])
+}
+
+/// Two of four replicas never had the leader's third reading, which is spoilt. They are no majority,
+/// and the fourth is away.
+fn four_replicas() -> Sample {
+    let mut cluster = agreeing(4);
+    spoil_entry(&mut cluster, 1, 3);
+    for replica in [2, 3] {
+        never_had(&mut cluster, replica, 3);
+    }
+    sample("four-replicas", cluster, &[1, 2, 3])
+}
+
+/// Four of six replicas never had it, and they are a majority. The sixth is away.
+fn six_replicas() -> Sample {
+    let mut cluster = agreeing(6);
+    spoil_entry(&mut cluster, 1, 3);
+    for replica in [2, 3, 4, 5] {
+        never_had(&mut cluster, replica, 3);
+    }
+    sample("six-replicas", cluster, &[1, 2, 3, 4, 5])
 }
 
 /// The leader's header is spoilt, so its image is not read.

@@ -5,7 +5,7 @@ use harness::call::Call;
 use harness::comparisons::clusters::{self, compare_plan, compare_recovery};
 use harness::comparisons::ENOUGH;
 use harness::generate::{recovery_case_of, Case, Cluster, Rng};
-use harness::model::MAX_SLOTS;
+use harness::model::{MAX_REPLICAS, MAX_SLOTS, MIN_REPLICAS};
 use harness::property::case_rng;
 use harness::tally::Tally;
 
@@ -23,7 +23,7 @@ fn plans() {
 fn plans_of_every_slot_count() {
     let mut rng = Rng::new(13);
     for m in 1..=MAX_SLOTS {
-        for n in [3, 5, 7] {
+        for n in MIN_REPLICAS..=MAX_REPLICAS {
             let mut cluster = Cluster::fresh(n, m);
             for replica in 1..=n {
                 for slot in 1..=m {
@@ -58,7 +58,7 @@ fn plan_of(cluster: &Cluster, leader: usize, slots: usize, rows: usize) -> Call 
 #[test]
 fn tables_of_another_length() {
     let mut rng = Rng::new(14);
-    for n in [3, 5, 7] {
+    for n in MIN_REPLICAS..=MAX_REPLICAS {
         let mut cluster = Cluster::fresh(n, 2);
         cluster.put(1, 1, 1, b"payload");
         let mut planned = |slots, rows| {
@@ -87,7 +87,7 @@ fn recoveries() {
 fn recoveries_of_every_slot_count() {
     for m in 1..=MAX_SLOTS {
         let mut tally = Tally::default();
-        for n in [3, 5, 7] {
+        for n in MIN_REPLICAS..=MAX_REPLICAS {
             let mut rng = case_rng(15, 100 * n as u64 + m as u64);
             let case = recovery_case_of(&mut rng, n, m);
             compare_recovery(&mut rng, &case, &mut tally);

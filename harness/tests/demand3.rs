@@ -22,6 +22,7 @@ fn clusters_whose_logs_agreed(on: Code) {
         coverage.waiting,
         coverage.refused,
         coverage.truncated,
+        coverage.even,
         coverage.fetched,
         coverage.out_of_reach,
         coverage.records_lost,

@@ -164,7 +164,7 @@ fn a_slot_after_the_truncation_is_truncated() {
     };
 }
 
-/// Of the third of five replicas or more, so that it takes a table of five rows.
+/// Of the third of four replicas or more, so that it takes a table of four rows.
 #[test]
 fn a_row_has_another_epoch() {
     let found = found(Side {
@@ -179,17 +179,17 @@ fn a_row_has_another_epoch() {
     });
     assert!(found.told.starts_with("Plan: rows[2] is "), "{found:?}");
     let Call::Plan {
-        n: 5,
+        n: 4,
         m: 2,
         slots: 2,
-        rows: 5,
+        rows: 4,
         ref cluster,
         ..
     } = found.call
     else {
         panic!("{found:?}");
     };
-    assert_eq!(cluster.len(), cluster_len(5, 2));
+    assert_eq!(cluster.len(), cluster_len(4, 2));
 }
 
 #[test]

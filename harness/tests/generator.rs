@@ -5,7 +5,7 @@ use harness::generate::{Case, Cluster};
 use harness::model::*;
 use harness::property::case_rng;
 
-const CASES: u64 = 3_000;
+const CASES: u64 = 12_000;
 
 fn parts(case: &Case) -> Cluster {
     Cluster {

@@ -114,13 +114,13 @@ fn headers() {
 /// A header is its own for no other numbers, and with no byte changed.
 #[test]
 fn headers_of_other_numbers() {
-    for n in [3, 5, 7] {
+    for n in MIN_REPLICAS..=MAX_REPLICAS {
         for replica in 1..=n {
             for m in [1, 2, 9, 10, 63, 64] {
                 let header = write_header(replica, n, m);
                 assert!(proved::is_header(&header, replica, n, m));
                 assert!(!proved::is_header(&header, replica + 1, n, m));
-                assert!(!proved::is_header(&header, replica, n + 2, m));
+                assert!(!proved::is_header(&header, replica, n + 1, m));
                 assert!(!proved::is_header(&header, replica, n, m + 1));
                 for at in 0..header.len() {
                     let mut changed = header;

@@ -26,6 +26,7 @@ on_both_sides! {
     two_dont_have_two_away_waits,
     two_dont_have_one_faulty_one_away_waits,
     three_dont_have_one_intact_fetches,
+    dont_haves_that_cut_of_each_n,
     budget_0_is_done_if_no_store_is_outstanding,
     budget_0_is_spent_if_a_store_is_outstanding,
     budget_0_waits_if_the_plan_waits,
@@ -199,25 +200,29 @@ fn one_more_used_slot_behind_it_makes_it_corrupt(on: Code) {
     );
 }
 
-/// Five replicas, the leader's only slot faulty; `replies` are those of replicas 2 to 5.
-fn five_replicas(on: Code, replies: [Option<Reply>; 4]) -> (Answer, u8) {
-    let mut cluster = Cluster::fresh(5, 1);
+/// The leader's only slot is faulty; `replies` are those of the other replicas, of which one that is
+/// away has the slot.
+fn replicas(on: Code, replies: &[Option<Reply>]) -> (Answer, u8) {
+    let mut cluster = Cluster::fresh(1 + replies.len(), 1);
     cluster.put(1, 1, 1, b"x");
     spoil(&mut cluster, 1, 1);
     let mut present = 1;
-    for (at, reply) in replies.into_iter().enumerate() {
+    for (at, &reply) in replies.iter().enumerate() {
         let replica = at + 2;
-        let Some(reply) = reply else { continue };
-        present |= 1 << (replica - 1);
-        if reply != Reply::DontHave {
+        present |= u32::from(reply.is_some()) << (replica - 1);
+        if reply != NO {
             cluster.put(replica, 1, 1, b"x");
         }
-        if reply == Reply::HaveFaulty {
+        if reply == FAULTY {
             spoil(&mut cluster, replica, 1);
         }
     }
     let (answer, bytes, _) = planned(on, &cluster, 1, present);
     (answer.unwrap(), bytes[0])
+}
+
+fn five_replicas(on: Code, replies: [Option<Reply>; 4]) -> (Answer, u8) {
+    replicas(on, &replies)
 }
 
 const NO: Option<Reply> = Some(Reply::DontHave);
@@ -247,6 +252,29 @@ fn three_dont_have_one_intact_fetches(on: Code) {
         five_replicas(on, [NO, YES, NO, YES]),
         (Answer::Ready(1), 13)
     );
+}
+
+/// For each n: so many don't-haves cut, and fewer wait, the others being away.
+fn dont_haves_that_cut_of_each_n(on: Code) {
+    for (n, needed) in [(3, 2), (4, 3), (5, 3), (6, 4), (7, 4)] {
+        for dont_have in 0..n {
+            let mut replies = vec![None; n - 1];
+            replies[..dont_have].fill(NO);
+            let expected = if dont_have < needed {
+                (Answer::Waiting(1), 3)
+            } else {
+                (Answer::Ready(0), 4)
+            };
+            assert_eq!(replicas(on, &replies), expected, "{dont_have} of {n}");
+            // Whoever they are.
+            replies.reverse();
+            assert_eq!(
+                replicas(on, &replies),
+                expected,
+                "the last {dont_have} of {n}"
+            );
+        }
+    }
 }
 
 /// How a run of this budget ends that makes no store.

@@ -120,9 +120,14 @@ fn refusal_1(on: Code) {
 
 fn refusal_2(on: Code) {
     let cluster = small();
-    for n in [0, 1, 2, 4, 6, 8, 9, usize::MAX] {
+    for n in [0, 1, 2, 8, 9, usize::MAX] {
         assert_eq!(read_number(on, cluster.image(1), 1, n, 2, (2, 2)), Err(2));
         assert_eq!(cluster_number(on, &cluster.bytes, n, 2, 1, 7), Some(2));
+    }
+    // Four to seven are a cluster, of which this is no image and not all of them.
+    for n in [4, 5, 6, 7] {
+        assert_eq!(read_number(on, cluster.image(1), 1, n, 2, (2, 2)), Err(4));
+        assert_eq!(cluster_number(on, &cluster.bytes, n, 2, 1, 7), Some(3));
     }
     for replica in [0, 4, usize::MAX] {
         assert_eq!(
@@ -291,7 +296,11 @@ fn refusal_14_and_the_order_of_the_printing_program(on: Code) {
     assert_eq!(printed(b"", &vec![0; 65_536]), "refused  14\n");
     assert_eq!(printed(b"  4  0  9 999\n", &cluster.bytes), "refused   1\n");
     assert_eq!(printed(b"  4 65  9 999\n", b""), "refused   1\n");
-    assert_eq!(printed(b"  4  2  9 999\n", &cluster.bytes), "refused   2\n");
+    for n in [b"  2", b"  8"] {
+        let command = [&n[..], b"  2  9 999\n"].concat();
+        assert_eq!(printed(&command, &cluster.bytes), "refused   2\n");
+    }
+    assert_eq!(printed(b"  4  2  9 999\n", &cluster.bytes), "refused   3\n");
     assert_eq!(printed(b"999  2  9    \n", &cluster.bytes), "refused   2\n");
     assert_eq!(printed(b"  3  1  9 999\n", &cluster.bytes), "refused   3\n");
     assert_eq!(printed(b"  3  2  9   8\n", &cluster.bytes), "refused  11\n");

@@ -159,7 +159,7 @@ fn which_refusal_comes_first() {
 
 #[test]
 fn lengths_around_the_largest_input() {
-    for (n, m) in [(3, 64), (5, 47), (7, 34), (7, 35)] {
+    for (n, m) in [(3, 64), (4, 59), (5, 47), (6, 39), (7, 34), (7, 35)] {
         let cluster = Cluster::fresh(n, m).bytes;
         assert_eq!(cluster.len(), cluster_len(n, m));
         let command = format!("{n:>3}{m:>3}  1    \n").into_bytes();

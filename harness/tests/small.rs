@@ -1,20 +1,23 @@
-//! All agreed clusters of three replicas and one slot, in all states of their recovery.
+//! All agreed clusters of three replicas and one slot, and those of four that are of fewer kinds, in all
+//! states of their recovery.
 
 #![deny(dead_code)]
 
 use harness::code::Code;
-use harness::generate::SMALL_CASES;
+use harness::generate::{Small, FOUR, THREE};
 use harness::on_both_sides;
 use harness::property::check_small;
 use std::ops::Range;
 
 on_both_sides! {
-    first_half,
-    second_half,
+    first_half_of_three,
+    second_half_of_three,
+    first_half_of_four,
+    second_half_of_four,
 }
 
-fn check(on: Code, numbers: Range<usize>) {
-    let coverage = check_small(on, numbers).unwrap_or_else(|what| panic!("{what}"));
+fn check(on: Code, small: &Small, numbers: Range<usize>) {
+    let coverage = check_small(on, small, numbers).unwrap_or_else(|what| panic!("{what}"));
     println!("{coverage}");
     for count in [
         coverage.ready,
@@ -30,10 +33,18 @@ fn check(on: Code, numbers: Range<usize>) {
     }
 }
 
-fn first_half(on: Code) {
-    check(on, 0..SMALL_CASES / 2);
+fn first_half_of_three(on: Code) {
+    check(on, &THREE, 0..THREE.cases() / 2);
 }
 
-fn second_half(on: Code) {
-    check(on, SMALL_CASES / 2..SMALL_CASES);
+fn second_half_of_three(on: Code) {
+    check(on, &THREE, THREE.cases() / 2..THREE.cases());
+}
+
+fn first_half_of_four(on: Code) {
+    check(on, &FOUR, 0..FOUR.cases() / 2);
+}
+
+fn second_half_of_four(on: Code) {
+    check(on, &FOUR, FOUR.cases() / 2..FOUR.cases());
 }

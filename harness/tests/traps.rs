@@ -365,7 +365,7 @@ fn order_of_the_leaders_stores(on: Code) {
 
 /// m x (3 x n - 2) stores are attained: the leader's records are lost, all else is replaced.
 fn the_most_stores_a_run_makes(on: Code) {
-    for (n, m) in [(3, 2), (5, 3), (7, 1)] {
+    for (n, m) in [(3, 2), (4, 2), (5, 3), (6, 1), (7, 1)] {
         let mut cluster = Cluster::fresh(n, m);
         for slot in 1..=m {
             cluster.put(1, slot, 2, b"x");

@@ -23,7 +23,7 @@ unfolding calls blankedOne tornOne fetchedOne twoMore lastStored lastCluster bud
 played =
     made (plan 3 5) (computed .planned) whole
     (refused (record { numbers = record { n = 5; m = 0; leader = 1; present = 31 }; call = run 9 }) (apart (computed .refused-1))
-    (refused (record { numbers = record { n = 4; m = 3; leader = 1; present = 15 }; call = step }) (apart (computed .refused-2))
+    (refused (record { numbers = record { n = 8; m = 3; leader = 1; present = 31 }; call = step }) (apart (computed .refused-2))
     (refused (record { numbers = record { n = 5; m = 2; leader = 1; present = 31 }; call = step }) (apart (computed .refused-3))
     (refused (record { numbers = record { n = 5; m = 3; leader = 1; present = 63 }; call = step }) (apart (computed .refused-11))
     (refused (record { numbers = record { n = 5; m = 3; leader = 5; present = 31 }; call = step }) (apart (computed .refused-12))

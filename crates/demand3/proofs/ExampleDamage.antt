@@ -15,7 +15,7 @@ use Rattle.image.specs.Verdict.{verdictOf, verdictAt}
 use Rattle.planner.specs.Setting.{settingOf}
 use Rattle.planner.specs.Rules.{majority}
 use Rattle.demand3.specs.Supposed.{History, Agree, held, committed, Supposed}
-use Rattle.demand3.specs.Before.{FlightSlot, arrived, recordAlone, Before, SlotDamage, spared, recordDamaged, entryDamaged, unusedDamaged, headerSpared, headerRefused, Damage, payloadIn, historyOf, DamagedCluster}
+use Rattle.demand3.specs.Before.{Flight, FlightSlot, arrived, recordAlone, Before, SlotDamage, spared, recordDamaged, entryDamaged, unusedDamaged, headerSpared, headerRefused, Damage, payloadIn, historyOf, DamagedCluster}
 use Rattle.protocol.specs.Call.{named}
 use Rattle.example.specs.Undamaged.{payloadA, payloadB, payloadC, noise, imageWith, leaderImage, imageAB, emptyImage, gapImage, imageA, undamagedFive, undamagedThree}
 use Rattle.example.specs.Damaged.{five, damagedCluster}
@@ -25,10 +25,10 @@ use Rattle.demand3.proofs.BeforeLaws.{damaged-cluster}
 use Rattle.example.proofs.ComputedLaws.{computed}
 
 -- a stale entry, and noise
-stale : (q : Bytes) → intact 1 payloadC ≡ intact 2 q → ⊥
+pub stale : (q : Bytes) → intact 1 payloadC ≡ intact 2 q → ⊥
 stale q e = let z : _≡_ {A = ℕ} 1 2 = cc in omega arith
 
-noisy : (q : Bytes) → broken noise ≡ intact 2 q → ⊥
+pub noisy : (q : Bytes) → broken noise ≡ intact 2 q → ⊥
 noisy q e = let z : _≡_ {A = ℕ} 0 1 = cc in omega arith
 
 -- ---- before the damage
@@ -78,7 +78,7 @@ before-five (suc (suc (suc zero))) h = record { stored = λ k l e. stored-AB k l
 before-five (suc (suc (suc (suc zero)))) h = record { stored = λ k l e. stored-gap k l; flying = λ k l e. absurd (flying-gap k l e) }
 before-five (suc (suc (suc (suc (suc c))))) h = absurd (omega arith)
 
-stored-A : (k : ℕ) → k < 1 → verdictAt 1 imageA k ≡ 1
+pub stored-A : (k : ℕ) → k < 1 → verdictAt 1 imageA k ≡ 1
 unfolding imageA imageWith verdictAt verdictOf conditionAt condition
 stored-A zero l = refl
 stored-A (suc k) l = absurd (omega arith)
@@ -137,7 +137,7 @@ damage-five (suc (suc (suc zero))) h = record { header = rw (computed .header-3)
 damage-five (suc (suc (suc (suc zero)))) h = record { header = rw (computed .header-4) headerSpared; slots = slots-fifth }
 damage-five (suc (suc (suc (suc (suc c))))) h = absurd (omega arith)
 
-one-slot : (i j : Image) → SlotDamage (i .records 0) (i .entries 0) (j .records 0) (j .entries 0)
+pub one-slot : (i j : Image) → SlotDamage (i .records 0) (i .entries 0) (j .records 0) (j .entries 0)
     → (k : ℕ) → k < 1 → SlotDamage (i .records k) (i .entries k) (j .records k) (j .entries k)
 one-slot i j d zero h = d
 one-slot i j d (suc k) h = absurd (omega arith)
@@ -168,7 +168,7 @@ pub record Alike (e : ℕ) (paid : ℕ → Bytes) (h : History) : Type 0 where
   pub epochs : (k : ℕ) → k < h .length → h .epoch k ≡ e
   pub payloads : (k : ℕ) → k < h .length → h .payload k ≡ writtenTo k
 
-agreed : (n e : ℕ) (paid : ℕ → Bytes) (H : ℕ → History) → ((c : ℕ) → c < n → Alike e paid (H c)) → Agree n H
+pub agreed : (n e : ℕ) (paid : ℕ → Bytes) (H : ℕ → History) → ((c : ℕ) → c < n → Alike e paid (H c)) → Agree n H
 unfolding Agree
 agreed n e paid H alike c d k cn dn h g x = record {
   epochs = λ j b. alike c cn .epochs j (omega arith) ∙ sym (alike d dn .epochs j (omega arith));
@@ -191,16 +191,16 @@ alike-leader = record { epochs = epochs; payloads = payloads }
     payloads (suc (suc zero)) h = refl
     payloads (suc (suc (suc k))) h = absurd (omega arith)
 
+either : (u : Bool) (p : Bytes) → cond u p p ≡ p
+either true p = refl
+either false p = refl
+
 alike-AB : (t : ℕ → Bool) → Alike 2 writtenTo (historyOf 3 (record { inFlight = t; payload = writtenTo }) imageAB)
 unfolding historyOf imageAB imageWith epochAt epochOf logLength lowest isBlank payloadIn writtenTo
 alike-AB t = record { epochs = epochs; payloads = payloads }
   where
     H : History
     H = historyOf 3 (record { inFlight = t; payload = writtenTo }) imageAB
-
-    either : (u : Bool) (p : Bytes) → cond u p p ≡ p
-    either true p = refl
-    either false p = refl
 
     epochs : (k : ℕ) → k < 2 → H .epoch k ≡ 2
     epochs zero h = refl
@@ -212,9 +212,9 @@ alike-AB t = record { epochs = epochs; payloads = payloads }
     payloads (suc zero) h = either (t 1) payloadB
     payloads (suc (suc k)) h = absurd (omega arith)
 
-alike-empty : Alike 2 writtenTo (historiesFive 2)
-unfolding historiesFive historyOf undamagedFive emptyImage imageWith logLength lowest isBlank
-alike-empty = record { epochs = λ k h. absurd (omega arith); payloads = λ k h. absurd (omega arith) }
+pub alike-empty : (m : ℕ) (f : Flight) → Alike 2 writtenTo (historyOf (suc m) f emptyImage)
+unfolding historyOf emptyImage imageWith logLength lowest isBlank
+alike-empty m f = record { epochs = λ k h. absurd (omega arith); payloads = λ k h. absurd (omega arith) }
 
 alike-gap : Alike 2 writtenTo (historiesFive 4)
 unfolding historiesFive historyOf flightsFive inFlightFive undamagedFive gapImage imageWith epochAt epochOf logLength lowest isBlank payloadIn writtenTo
@@ -228,26 +228,33 @@ alike-gap = record { epochs = epochs; payloads = payloads }
     payloads zero h = refl
     payloads (suc k) h = absurd (omega arith)
 
-alike-A : (c : ℕ) → Alike 2 writtenTo (historiesThree c)
-unfolding historiesThree historyOf flightsThree undamagedThree imageA imageWith epochAt epochOf logLength lowest isBlank payloadIn writtenTo
-alike-A c = record { epochs = epochs; payloads = payloads }
+pub alike-A : (t : ℕ → Bool) → Alike 2 writtenTo (historyOf 1 (record { inFlight = t; payload = writtenTo }) imageA)
+unfolding historyOf imageA imageWith epochAt epochOf logLength lowest isBlank payloadIn writtenTo
+alike-A t = record { epochs = epochs; payloads = payloads }
   where
-    epochs : (k : ℕ) → k < 1 → historiesThree c .epoch k ≡ 2
+    H : History
+    H = historyOf 1 (record { inFlight = t; payload = writtenTo }) imageA
+
+    epochs : (k : ℕ) → k < 1 → H .epoch k ≡ 2
     epochs zero h = refl
     epochs (suc k) h = absurd (omega arith)
 
-    payloads : (k : ℕ) → k < 1 → historiesThree c .payload k ≡ writtenTo k
-    payloads zero h = refl
+    payloads : (k : ℕ) → k < 1 → H .payload k ≡ writtenTo k
+    payloads zero h = either (t 0) payloadA
     payloads (suc k) h = absurd (omega arith)
 
 alike-five : (c : ℕ) → c < 5 → Alike 2 writtenTo (historiesFive c)
 unfolding undamagedFive flightsFive historiesFive
 alike-five zero h = alike-leader
 alike-five (suc zero) h = alike-AB (inFlightFive 1)
-alike-five (suc (suc zero)) h = alike-empty
+alike-five (suc (suc zero)) h = alike-empty 2 (flightsFive 2)
 alike-five (suc (suc (suc zero))) h = alike-AB (inFlightFive 3)
 alike-five (suc (suc (suc (suc zero)))) h = alike-gap
 alike-five (suc (suc (suc (suc (suc c))))) h = absurd (omega arith)
+
+alike-three : (c : ℕ) → c < 3 → Alike 2 writtenTo (historiesThree c)
+unfolding undamagedThree flightsThree historiesThree
+alike-three c h = alike-A (λ k. false)
 
 -- ---- all of it
 
@@ -270,7 +277,7 @@ unfolding three settingOf majority historiesThree count sum oneIf committed held
 damaged-three = record {
   before = before-three;
   damage = damage-three;
-  agree = agreed 3 2 writtenTo historiesThree (λ c h. alike-A c);
+  agree = agreed 3 2 writtenTo historiesThree alike-three;
   onMajority = omega arith;
   leaderHeld = refl;
 }

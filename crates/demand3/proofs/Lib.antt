@@ -13,3 +13,4 @@ pub mod RunLaws
 pub mod LeftLaws
 pub mod ExampleCalls
 pub mod ExampleDamage
+pub mod EvenDamage

@@ -28,3 +28,6 @@ historiesFive c = historyOf 3 (flightsFive c) (undamagedFive c)
 -- nothing
 unfoldable pub flightsThree : ℕ → Flight
 flightsThree c = record { inFlight = λ k. false; payload = writtenTo }
+
+unfoldable pub flightsFour : ℕ → Flight
+flightsFour c = record { inFlight = λ k. false; payload = writtenTo }

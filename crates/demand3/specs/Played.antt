@@ -10,13 +10,14 @@ use Rattle.demand3.specs.Supposed.{Supposed}
 use Rattle.demand3.specs.Before.{DamagedCluster}
 use Rattle.protocol.specs.Call.{Call, plan, step, run, named, refusalIn}
 use Rattle.demand3.specs.CallList.{Request, CallList}
-use Rattle.demand3.specs.Claim.{PartA, PartB, Waits}
-use Rattle.protocol.specs.CallResult.{callResult, planning, ready, recovered, spent}
-use Rattle.example.specs.Undamaged.{payloadA, undamagedFive, undamagedThree}
+use Rattle.demand3.specs.Claim.{Stands, PartA, PartB, Waits}
+use Rattle.protocol.specs.CallResult.{callResult, callBytes, planning, ready, recovered, spent}
+use Rattle.example.specs.Undamaged.{payloadA, undamagedFive, undamagedThree, undamagedFour}
 use Rattle.example.specs.Damaged.{five, damagedCluster}
 use Rattle.example.specs.Waiting.{three, waitingCluster}
+use Rattle.example.specs.Four.{four, evenCluster, evenTorn}
 use Rattle.example.specs.Visited.{fetchedOne, lastStored, lastCluster}
-use Rattle.demand3.specs.Histories.{flightsFive, historiesFive, flightsThree}
+use Rattle.demand3.specs.Histories.{flightsFive, historiesFive, flightsThree, flightsFour}
 
 -- a call with the numbers of the five
 abbrev pub asked : Call → Request
@@ -28,7 +29,7 @@ unfoldable pub calls : List Request
 calls =
     asked (plan 3 5)
     ∷ record { numbers = record { n = 5; m = 0; leader = 1; present = 31 }; call = run 9 }
-    ∷ record { numbers = record { n = 4; m = 3; leader = 1; present = 15 }; call = step }
+    ∷ record { numbers = record { n = 8; m = 3; leader = 1; present = 31 }; call = step }
     ∷ record { numbers = record { n = 5; m = 2; leader = 1; present = 31 }; call = step }
     ∷ record { numbers = record { n = 5; m = 3; leader = 1; present = 63 }; call = step }
     ∷ record { numbers = record { n = 5; m = 3; leader = 5; present = 31 }; call = step }
@@ -71,3 +72,13 @@ pub record WaitingExhibit : Type 0 where
   pub noCopy : (c : ℕ) → c < 3 → have (named three) (viewsIn (named three) waitingCluster) 0 c ≡ false
   pub played : CallList three (record { numbers = three; call = plan 1 3 } ∷ []) waitingCluster waitingCluster
   pub waits : Waits three waitingCluster waitingCluster
+
+-- four replicas: A was committed on three of them and no more, and is damaged on two. A run is cut off in the middle of its first store;
+-- the next one ends, and A stands on all
+pub record EvenExhibit : Type 0 where
+  pub accepted : refusalIn four evenCluster ≡ 0
+  pub damaged : DamagedCluster (named four) undamagedFour flightsFour (decode 4 1 evenCluster) 0 2 payloadA
+  pub played : CallList four (record { numbers = four; call = run 12 } ∷ []) evenCluster evenTorn
+  pub isReady : callResult four (planning four) evenCluster ≡ ready 1
+  pub lastRun : callResult four (run 12) evenTorn ≡ recovered 4
+  pub mended : (c : ℕ) → c < 4 → Stands (named four) (callBytes four (run 12) evenTorn) c 0 2 payloadA

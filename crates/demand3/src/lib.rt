@@ -1,6 +1,6 @@
 // Demand 3: every list of plans, steps and runs with power failures anywhere.
 ghost use Rattle.demand3.specs.Demand3.{Demand3};
-ghost use Rattle.demand3.specs.Played.{Exhibit, WaitingExhibit};
+ghost use Rattle.demand3.specs.Played.{Exhibit, WaitingExhibit, EvenExhibit};
 
 // The claim. The function does nothing; its contract is the theorem.
 pub fn demand_three()
@@ -15,4 +15,9 @@ pub fn exhibit_claim()
 // So is what it says of waiting.
 pub fn waiting_exhibit_claim()
     ensures { λ _. ⌜ WaitingExhibit ⌝ }
+{}
+
+// It speaks of an even number of replicas: of four, three of which are a majority.
+pub fn even_exhibit_claim()
+    ensures { λ _. ⌜ EvenExhibit ⌝ }
 {}

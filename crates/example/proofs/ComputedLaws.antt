@@ -19,15 +19,16 @@ use Rattle.protocol.specs.Store.{sameEntry}
 use Rattle.protocol.specs.Recovery.{_or_, ifBelow, leaderStore, differs, firstDiffering, followerStore, isSome, firstOf, ifReady, unlike, due, followersStore, next, after}
 use Rattle.protocol.specs.StepBytes.{nextIn, afterStoreBytes, stepsBytes, storesBytes}
 use Rattle.protocol.specs.Call.{budgetOf, refusalOf}
-use Rattle.protocol.specs.CallResult.{stepResult, runResult, answered, acceptedResult, callResult}
+use Rattle.protocol.specs.CallResult.{stepResult, runResult, answered, readyResult, acceptedResult, callResult}
 use Rattle.example.specs.Undamaged.{payloadA, payloadB, payloadC, noise}
 use Rattle.example.specs.Damaged.{five, scratch, first, second, third, fourth, fifth, damagedCluster}
 use Rattle.example.specs.Waiting.{three, scrawl, waitingCluster}
+use Rattle.example.specs.Four.{four, evenCluster, evenTorn}
 use Rattle.example.specs.Visited.{blankedOne, tornOne, fetchedOne, twoMore, lastStored, lastCluster}
 use Rattle.example.specs.Computed.{Computed}
 
 pub computed : Computed
-unfolding three scrawl waitingCluster callRefusal readRefusal five payloadA payloadB payloadC noise scratch first second third fourth fifth damagedCluster lowest count sum oneIf all part spliced same sumA sumB checksumOf digits column digitStep valueFrom valueOf sealed headerBytes recordBytes blankRecord padded entryBytes freshEntry isEpoch readHeader isGood recordEpoch readRecord isIntact entryEpoch entryPayload readEntry refuse _else_ imageSize recordAt entryAt decodeImage condition epochOf conditionAt epochAt isBlank isProper isLost logLength noGap noneLost rising imageRefusal viewOf isSize isReplica isSlots isWhole imageAt imagePart decode settingOf has viewsOf viewsIn shapeRefusal clusterRefusal lentRefusal planRefusal refusalOf budgetOf majority mayTruncate isFaulty isRecordLost isUsed isTruncate isFetch isWait answers agrees have dontHave donor rule end firstWaiting answer sameEntry _or_ ifBelow leaderStore differs firstDiffering followerStore isSome firstOf ifReady unlike due followersStore next after nextIn afterStoreBytes stepsBytes storesBytes stepResult runResult answered acceptedResult callResult blankedOne tornOne fetchedOne twoMore lastStored lastCluster
+unfolding four evenCluster evenTorn three scrawl waitingCluster callRefusal readRefusal five payloadA payloadB payloadC noise scratch first second third fourth fifth damagedCluster lowest count sum oneIf all part spliced same sumA sumB checksumOf digits column digitStep valueFrom valueOf sealed headerBytes recordBytes blankRecord padded entryBytes freshEntry isEpoch readHeader isGood recordEpoch readRecord isIntact entryEpoch entryPayload readEntry refuse _else_ imageSize recordAt entryAt decodeImage condition epochOf conditionAt epochAt isBlank isProper isLost logLength noGap noneLost rising imageRefusal viewOf isSize isReplica isSlots isWhole imageAt imagePart decode settingOf has viewsOf viewsIn shapeRefusal clusterRefusal lentRefusal planRefusal refusalOf budgetOf majority mayTruncate isFaulty isRecordLost isUsed isTruncate isFetch isWait answers agrees have dontHave donor rule end firstWaiting answer sameEntry _or_ ifBelow leaderStore differs firstDiffering followerStore isSome firstOf ifReady unlike due followersStore next after nextIn afterStoreBytes stepsBytes storesBytes stepResult runResult answered acceptedResult callResult blankedOne tornOne fetchedOne twoMore lastStored lastCluster readyResult
 computed = record {
   next-first = refl;
   next-torn = refl;
@@ -87,4 +88,21 @@ computed = record {
   no-copy-0 = refl;
   no-copy-1 = refl;
   no-copy-2 = refl;
+  go-even = refl;
+  next-even = refl;
+  go-even-torn = refl;
+  even-0 = record { rec = refl; ent = refl };
+  even-1 = record { rec = refl; ent = refl };
+  even-2 = record { rec = refl; ent = refl };
+  even-3 = record { rec = refl; ent = refl };
+  even-header-0 = refl;
+  even-header-1 = refl;
+  even-header-2 = refl;
+  even-header-3 = refl;
+  even-ready = refl;
+  even-read-0 = refl;
+  even-read-1 = refl;
+  even-read-2 = refl;
+  even-read-3 = refl;
+  even-run = refl;
 }

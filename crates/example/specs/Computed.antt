@@ -13,10 +13,11 @@ use Rattle.planner.specs.Rules.{isFaulty, have, rule, isWait, end}
 use Rattle.protocol.specs.Store.{storeEntry, storeRecord, storeBlank}
 use Rattle.protocol.specs.StepBytes.{nextIn, stepsBytes}
 use Rattle.protocol.specs.Call.{plan, step, run, Numbers, named, refusalOf}
-use Rattle.protocol.specs.CallResult.{recovered, spent, callResult}
+use Rattle.protocol.specs.CallResult.{ready, recovered, spent, callResult}
 use Rattle.example.specs.Undamaged.{payloadA, payloadB, payloadC, noise}
 use Rattle.example.specs.Damaged.{five, scratch, damagedCluster}
 use Rattle.example.specs.Waiting.{three, scrawl, waitingCluster}
+use Rattle.example.specs.Four.{four, evenCluster, evenTorn}
 use Rattle.example.specs.Visited.{blankedOne, tornOne, fetchedOne, twoMore, lastStored}
 
 -- record and entry of slot k of replica c
@@ -31,7 +32,7 @@ pub record Computed : Type 0 where
   pub next-last : nextIn (named five) (stepsBytes (named five) 3 twoMore) ≡ some (storeEntry 3 1 0)
   pub planned : refusalOf five (plan 3 5) damagedCluster ≡ 0
   pub refused-1 : refusalOf (record { n = 5; m = 0; leader = 1; present = 31 }) (run 9) damagedCluster ≡ 1
-  pub refused-2 : refusalOf (record { n = 4; m = 3; leader = 1; present = 15 }) step damagedCluster ≡ 2
+  pub refused-2 : refusalOf (record { n = 8; m = 3; leader = 1; present = 31 }) step damagedCluster ≡ 2
   pub refused-3 : refusalOf (record { n = 5; m = 2; leader = 1; present = 31 }) step damagedCluster ≡ 3
   pub refused-11 : refusalOf (record { n = 5; m = 3; leader = 1; present = 63 }) step damagedCluster ≡ 11
   pub refused-12 : refusalOf (record { n = 5; m = 3; leader = 5; present = 31 }) step damagedCluster ≡ 12
@@ -86,3 +87,21 @@ pub record Computed : Type 0 where
   pub no-copy-0 : have (named three) (viewsIn (named three) waitingCluster) 0 0 ≡ false
   pub no-copy-1 : have (named three) (viewsIn (named three) waitingCluster) 0 1 ≡ false
   pub no-copy-2 : have (named three) (viewsIn (named three) waitingCluster) 0 2 ≡ false
+  -- the cluster of four
+  pub go-even : clusterRefusal 4 1 1 15 evenCluster ≡ 0
+  pub next-even : nextIn (named four) evenCluster ≡ some (storeEntry 0 0 2)
+  pub go-even-torn : clusterRefusal 4 1 1 15 evenTorn ≡ 0
+  pub even-0 : Means four evenCluster 0 0 (good 2) (intact 1 payloadC)
+  pub even-1 : Means four evenCluster 1 0 (good 2) (broken noise)
+  pub even-2 : Means four evenCluster 2 0 (good 2) (intact 2 payloadA)
+  pub even-3 : Means four evenCluster 3 0 blank (broken freshEntry)
+  pub even-header-0 : decode 4 1 evenCluster 0 .header ≡ proper
+  pub even-header-1 : decode 4 1 evenCluster 1 .header ≡ proper
+  pub even-header-2 : decode 4 1 evenCluster 2 .header ≡ proper
+  pub even-header-3 : decode 4 1 evenCluster 3 .header ≡ proper
+  pub even-ready : callResult four (plan 1 4) evenCluster ≡ ready 1
+  pub even-read-0 : readRefusal 1 4 1 (imagePart 1 evenCluster 0) ≡ 0
+  pub even-read-1 : readRefusal 2 4 1 (imagePart 1 evenCluster 1) ≡ 0
+  pub even-read-2 : readRefusal 3 4 1 (imagePart 1 evenCluster 2) ≡ 0
+  pub even-read-3 : readRefusal 4 4 1 (imagePart 1 evenCluster 3) ≡ 0
+  pub even-run : callResult four (run 12) evenTorn ≡ recovered 4

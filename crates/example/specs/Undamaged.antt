@@ -1,6 +1,8 @@
--- Two clusters before their damage, taken apart. Epoch 2 wrote payloads A, B and C.
+-- Three clusters before their damage, taken apart. Epoch 2 wrote payloads A, B and C.
 use Prim.Native.Nat.{zero, suc}
+use mathlib.Core.Bool.{cond}
 use mathlib.Core.List.{List, [], _∷_}
+use lib.Dec.{ltb}
 use lib.ListN.{getD, replicate}
 use Rattle.slices.specs.Parts.{Bytes}
 use Rattle.record.specs.Layout.{freshEntry}
@@ -53,3 +55,7 @@ undamagedFive (suc (suc (suc (suc c)))) = gapImage
 -- three with one slot each: A on all
 unfoldable pub undamagedThree : Cluster
 undamagedThree c = imageA
+
+-- four with one slot each: A on three of them
+unfoldable pub undamagedFour : Cluster
+undamagedFour c = cond (ltb c 3) imageA emptyImage

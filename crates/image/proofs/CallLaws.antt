@@ -2,6 +2,7 @@
 use Prim.Native.Nat.{ℕ, _≤_, _<_}
 use mathlib.Core.Path.{_≡_, sym}
 use mathlib.Core.Bool.{true, false, not, _&&_}
+use native.Mathlib.Omega.{arith}
 use lib.Dec.{eqb, leb}
 use borrow.Author.Tests.{leb-true, le-leb, lt-leb, eqb-true, eq-eqb, ne-eqb, not-false}
 use Rattle.slices.proofs.SameLaws.{and-left, and-right, and-off}
@@ -10,56 +11,82 @@ use Rattle.image.specs.Image.{imageSize}
 use Rattle.image.specs.View.{isSize, isReplica, isSlots, callRefusal}
 use Rattle.image.proofs.RefusalLaws.{refuse-zero, else-zero-l, else-zero-r}
 
+-- ---- a number within its bounds
+
+module _ (low high x : ℕ) where
+  below : x < low → (leb low x && leb x high) ≡ false
+  below h = rw (lt-leb low x h)
+
+  above : high < x → (leb low x && leb x high) ≡ false
+  above h = rw (lt-leb x high h) (simp and-off)
+
+  within : low ≤ x → x ≤ high → (leb low x && leb x high) ≡ true
+  within h k = rw (le-leb low x h, le-leb x high k)
+
+  from : (leb low x && leb x high) ≡ true → low ≤ x
+  from e = leb-true low x (and-left (leb low x) (leb x high) e)
+
+  up-to : (leb low x && leb x high) ≡ true → x ≤ high
+  up-to e = leb-true x high (and-right (leb low x) (leb x high) e)
+
 -- ---- how many slots there may be
 
 module _ (m : ℕ) where
   pub slots-few : m < 1 → isSlots m ≡ false
   unfolding isSlots
-  slots-few h = rw (lt-leb 1 m h)
+  slots-few h = below _ _ m (omega (arith, h))
 
   pub slots-many : 64 < m → isSlots m ≡ false
   unfolding isSlots
-  slots-many h = rw (lt-leb m 64 h) (simp and-off)
+  slots-many h = above _ _ m (omega (arith, h))
 
   pub is-slots : 1 ≤ m → m ≤ 64 → isSlots m ≡ true
   unfolding isSlots
-  is-slots h k = rw (le-leb 1 m h, le-leb m 64 k)
+  is-slots h k = within _ _ m (omega (arith, h)) (omega (arith, k))
 
   pub slots-low : isSlots m ≡ true → 1 ≤ m
   unfolding isSlots
-  slots-low e = leb-true 1 m (and-left (leb 1 m) (leb m 64) e)
+  slots-low e = omega (arith, from _ _ m e)
 
   pub slots-high : isSlots m ≡ true → m ≤ 64
   unfolding isSlots
-  slots-high e = leb-true m 64 (and-right (leb 1 m) (leb m 64) e)
+  slots-high e = omega (arith, up-to _ _ m e)
 
--- ---- which replicas there are
+-- ---- how many replicas there may be, and which
 
 module _ (n : ℕ) where
-  pub size-3 : n ≡ 3 → true ≡ isSize n
+  pub size-few : n < 3 → isSize n ≡ false
   unfolding isSize
-  size-3 h = sym (rw (eq-eqb n 3 h))
+  size-few h = below _ _ n (omega (arith, h))
 
-  pub size-5 : ¬ (n ≡ 3) → n ≡ 5 → true ≡ isSize n
+  pub size-many : 7 < n → isSize n ≡ false
   unfolding isSize
-  size-5 h k = sym (rw (ne-eqb n 3 h, eq-eqb n 5 k))
+  size-many h = above _ _ n (omega (arith, h))
 
-  pub size-7 : ¬ (n ≡ 3) → ¬ (n ≡ 5) → eqb n 7 ≡ isSize n
+  pub is-size : 3 ≤ n → n ≤ 7 → isSize n ≡ true
   unfolding isSize
-  size-7 h k = sym (rw (ne-eqb n 3 h, ne-eqb n 5 k))
+  is-size h k = within _ _ n (omega (arith, h)) (omega (arith, k))
+
+  pub size-low : isSize n ≡ true → 3 ≤ n
+  unfolding isSize
+  size-low e = omega (arith, from _ _ n e)
+
+  pub size-high : isSize n ≡ true → n ≤ 7
+  unfolding isSize
+  size-high e = omega (arith, up-to _ _ n e)
 
 module _ (n c : ℕ) where
   pub replica-low : c < 1 → isReplica n c ≡ false
   unfolding isReplica
-  replica-low h = rw (lt-leb 1 c h)
+  replica-low h = below _ _ c h
 
   pub replica-high : n < c → isReplica n c ≡ false
   unfolding isReplica
-  replica-high h = rw (lt-leb c n h) (simp and-off)
+  replica-high h = above _ _ c h
 
   pub is-replica : 1 ≤ c → c ≤ n → isReplica n c ≡ true
   unfolding isReplica
-  is-replica h k = rw (le-leb 1 c h, le-leb c n k)
+  is-replica h k = within _ _ c h k
 
 -- ---- the refusals
 

@@ -1,8 +1,7 @@
 -- What refuses an image, number by number.
 use Prim.Native.Nat.{ℕ, zero, suc, _+_, _*_, _-_, _≤_, _<_}
 use mathlib.Core.Path.{_≡_, refl, sym, subst}
-use mathlib.Core.Bool.{Bool, true, false, cond, not, _&&_, _||_, true≢false}
-use mathlib.Core.Logic.{_⊎_, inl, inr}
+use mathlib.Core.Bool.{Bool, true, false, cond, not, _&&_, true≢false}
 use native.Mathlib.Omega.{arith}
 use native.Mathlib.Decide.{decLt}
 use lib.Dec.{eqb, leb}
@@ -18,7 +17,7 @@ use Rattle.image.specs.Refusal.{refuse, _else_}
 use Rattle.image.specs.Image.{Image, imageSize, decodeImage}
 use Rattle.image.specs.View.{Whole, Faulty, isSize, isReplica, isSlots, isBlank, isProper, isLost, condition, conditionAt, logLength, noGap, noneLost, rising, imageRefusal, callRefusal, readRefusal}
 use Rattle.image.specs.RefusalClaim.{Lowest, ReadPasses}
-use Rattle.image.proofs.CallLaws.{is-slots, slots-low, slots-high, is-replica}
+use Rattle.image.proofs.CallLaws.{is-slots, slots-low, slots-high, is-size, size-low, size-high, is-replica}
 use Rattle.image.proofs.DecodeLaws.{size-is}
 use Rattle.image.proofs.ViewLaws.{length-le, used-below, blank-next, gap-elim, gap-intro, lost-elim, lost-intro, rising-intro, rising-all}
 use Rattle.image.proofs.LowestLaws.{From, Decides, try, last-of, else-assoc}
@@ -28,22 +27,10 @@ use Rattle.image.proofs.LowestLaws.{From, Decides, try, last-of, else-a
 slots-decides : (m : ℕ) → Decides (isSlots m) ((1 ≤ m) × (m ≤ 64))
 slots-decides m = record { so = λ e. (slots-low m e, slots-high m e); back = λ p. is-slots m (p .0) (p .1) }
 
-pub size-decides : (n : ℕ) → Decides (isSize n) ((n ≡ 3) ⊎ (n ≡ 5) ⊎ (n ≡ 7))
-unfolding isSize
-size-decides n = record { so = λ e. so (eqb n 3) (eqb n 5) (eqb n 7) refl refl refl e; back = back }
-  where
-    so : (x y z : Bool) → eqb n 3 ≡ x → eqb n 5 ≡ y → eqb n 7 ≡ z → (x || y || z) ≡ true → (n ≡ 3) ⊎ (n ≡ 5) ⊎ (n ≡ 7)
-    so true y z a b c e = inl (eqb-true n 3 a)
-    so false true z a b c e = inr (inl (eqb-true n 5 b))
-    so false false true a b c e = inr (inr (eqb-true n 7 c))
-    so false false false a b c e = absurd (true≢false (sym e))
+size-decides : (n : ℕ) → Decides (isSize n) ((3 ≤ n) × (n ≤ 7))
+size-decides n = record { so = λ e. (size-low n e, size-high n e); back = λ p. is-size n (p .0) (p .1) }
 
-    back : (n ≡ 3) ⊎ (n ≡ 5) ⊎ (n ≡ 7) → (eqb n 3 || eqb n 5 || eqb n 7) ≡ true
-    back (inl e) = rw e
-    back (inr (inl e)) = rw e
-    back (inr (inr e)) = rw e
-
-replica-decides : (n c : ℕ) → Decides (isSize n && isReplica n c) (((n ≡ 3) ⊎ (n ≡ 5) ⊎ (n ≡ 7)) × ((1 ≤ c) × (c ≤ n)))
+replica-decides : (n c : ℕ) → Decides (isSize n && isReplica n c) (((3 ≤ n) × (n ≤ 7)) × ((1 ≤ c) × (c ≤ n)))
 replica-decides n c = record {
   so = λ e. (size-decides n .so (and-left (isSize n) (isReplica n c) e), within (and-right (isSize n) (isReplica n c) e));
   back = λ p. and-true (isSize n) (isReplica n c) (size-decides n .back (p .0)) (is-replica n c (p .1 .0) (p .1 .1));

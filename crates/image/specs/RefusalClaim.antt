@@ -20,7 +20,7 @@ pub record Lowest (Passes : ℕ → Type 0) (r : ℕ) : Type 0 where
 abbrev pub ReadPasses : ℕ → ℕ → ℕ → Bytes → Image → ℕ → Type 0
 ReadPasses c n m b i zero = Unit {0}
 ReadPasses c n m b i (suc zero) = (1 ≤ m) × (m ≤ 64)
-ReadPasses c n m b i (suc (suc zero)) = ((n ≡ 3) ⊎ (n ≡ 5) ⊎ (n ≡ 7)) × ((1 ≤ c) × (c ≤ n))
+ReadPasses c n m b i (suc (suc zero)) = ((3 ≤ n) × (n ≤ 7)) × ((1 ≤ c) × (c ≤ n))
 ReadPasses c n m b i (suc (suc (suc zero))) = length b ≡ 28 + 274 * m
 -- the header is the writer's for this replica, n and m
 ReadPasses c n m b i (suc (suc (suc (suc zero)))) = part b 0 28 ≡ headerBytes c n m

@@ -76,9 +76,9 @@ unfoldable pub imageRefusal : ℕ → Image → ℕ
 imageRefusal m i =
     refuse 4 (not (isProper (i .header))) else refuse 5 (not (noGap m i)) else refuse 6 (not (noneLost m i)) else refuse 7 (not (rising m i))
 
--- a cluster's allowed n
+-- a cluster's allowed n: 3 to 7 (02, One)
 unfoldable pub isSize : ℕ → Bool
-isSize n = eqb n 3 || eqb n 5 || eqb n 7
+isSize n = leb 3 n && leb n 7
 
 unfoldable pub isReplica : ℕ → ℕ → Bool
 isReplica n c = leb 1 c && leb c n

@@ -7,8 +7,10 @@ ghost use Rattle.image.specs.LastEntry.{LastEntry};
 
 pub mod condition; // condition.rt: the conditions of a slot by number
 
-// An image has at most so many slots, and a cluster so many replicas.
+// An image has at most so many slots, and a cluster from so many to so many replicas.
 pub const MAX_SLOTS: usize = 64;
+
+pub const MIN_REPLICAS: usize = 3;
 
 pub const MAX_REPLICAS: usize = 7;
 

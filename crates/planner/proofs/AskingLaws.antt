@@ -1,8 +1,7 @@
--- Who is readable, what a replica answers and what a majority is, in document 01's words.
-use Prim.Native.Nat.{ℕ, suc, _+_, _/_, _<_}
+-- Who is readable and what a replica answers, in document 01's words.
+use Prim.Native.Nat.{ℕ, suc, _+_, _<_}
 use mathlib.Core.Path.{_≡_, refl, sym, ap}
 use mathlib.Core.Bool.{Bool, true, false, not, _&&_, true≢false}
-use mathlib.Core.Logic.{_⊎_, inl, inr}
 use native.Mathlib.Omega.{arith}
 use lib.Dec.{eqb}
 use lib.ListN.{length}
@@ -12,12 +11,11 @@ use Rattle.image.specs.View.{Condition, Unused, Whole, RecordLost, Faulty, Lost
 use Rattle.image.specs.Read.{isWhole}
 use Rattle.image.specs.Cluster.{imageAt, imagePart, decode}
 use Rattle.image.proofs.RefusalLaws.{else-next}
-use Rattle.image.proofs.RefusedLaws.{size-decides}
 use Rattle.image.proofs.CallLaws.{is-replica, call-none}
 use Rattle.image.proofs.DecodeLaws.{size-is}
 use Rattle.image.proofs.ClusterLaws.{length-image}
 use Rattle.planner.specs.Setting.{Setting, has, settingOf, viewsOf}
-use Rattle.planner.specs.Rules.{majority, isFaulty, isUsed, answers, agrees, have, haveFaulty, dontHave}
+use Rattle.planner.specs.Rules.{isFaulty, isUsed, answers, agrees, have, haveFaulty, dontHave}
 use Rattle.planner.specs.Plan.{viewsIn}
 
 pub own-refusal : (n m leader present : ℕ) (b : Bytes) (c : ℕ) → isSize n ≡ true → isSlots m ≡ true → length b ≡ imageAt m n → c < n
@@ -45,12 +43,3 @@ one-answer S W k c h = go (answers S W c) (W c .condition k) (eqb (W c .epoch k)
     go true Faulty true h = refl
     go true Faulty false h = refl
     go true Lost e h = absurd (true≢false h)
-
-pub majority-is : (n : ℕ) → isSize n ≡ true → majority n ≡ (n + 1) / 2
-unfolding majority
-majority-is n e = go (size-decides n .so e)
-  where
-    go : (n ≡ 3) ⊎ (n ≡ 5) ⊎ (n ≡ 7) → n / 2 + 1 ≡ (n + 1) / 2
-    go (inl q) = rw q
-    go (inr (inl q)) = rw q
-    go (inr (inr q)) = rw q

@@ -14,11 +14,10 @@ use Rattle.image.specs.View.{View, viewOf, isReplica}
 use Rattle.image.specs.Cluster.{decode}
 use Rattle.image.proofs.RefusalLaws.{refuse-zero, else-next, else-first, else-zero-l, else-zero-r}
 use Rattle.image.proofs.ViewLaws.{length-le}
-use Rattle.image.proofs.CallLaws.{slots-high, replica-low, replica-high, is-replica}
+use Rattle.image.proofs.CallLaws.{slots-high, size-high, replica-low, replica-high, is-replica}
 use Rattle.planner.specs.Setting.{Setting, has, settingOf, viewsOf}
 use Rattle.planner.specs.Plan.{viewsIn, shapeRefusal, clusterRefusal}
 use Rattle.planner.specs.Survey.{Surveyed, SurveyOf}
-use Rattle.planner.proofs.SeenLaws.{size-le}
 use Rattle.planner.proofs.ShapeLaws.{shaped-slots, shaped-size}
 
 -- ---- refusal 12
@@ -77,7 +76,7 @@ module _ (n m leader present : ℕ) (b : Bytes) where
     cluster-survey e = record {
       n-is = refl;
       leader-is = sym (pred-is readable n leader);
-      few = size-le n (shaped-size n m present (length b) z);
+      few = size-high n (shaped-size n m present (length b) z);
       leader-below = rw (pred-is readable n leader) (replica-below n leader (and-left (isReplica n leader) (has readable (pred leader)) on));
       slots-fit = slots-high m (shaped-slots n m present (length b) z);
       leader-reads = rw (pred-is readable n leader) (sym (s .readable-is (pred leader) (replica-below n leader (and-left (isReplica n leader) (has readable (pred leader)) on))) ∙ and-right (isReplica n leader) (has readable (pred leader)) on);

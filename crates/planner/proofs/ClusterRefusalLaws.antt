@@ -13,8 +13,7 @@ use Rattle.slices.proofs.SameLaws.{and-left, and-right, and-true}
 use Rattle.image.specs.Refusal.{refuse, _else_}
 use Rattle.image.specs.View.{isSize, isReplica, isSlots, readRefusal}
 use Rattle.image.specs.Cluster.{imageAt, imagePart}
-use Rattle.image.proofs.CallLaws.{is-slots, slots-low, slots-high, is-replica}
-use Rattle.image.proofs.RefusedLaws.{size-decides}
+use Rattle.image.proofs.CallLaws.{is-slots, slots-low, slots-high, is-size, size-low, size-high, is-replica}
 use Rattle.planner.specs.Setting.{settingOf, has}
 use Rattle.planner.specs.Plan.{viewsIn, shapeRefusal, clusterRefusal, lentRefusal, planRefusal}
 use Rattle.planner.specs.ClusterRefusalClaim.{LowestApplying, InSet, ClusterRefused, PlanRefused, slots, replicas, size, stray, no-leader, away, unreadable, cluster, plan, table}
@@ -151,7 +150,7 @@ module _ (n m leading present : ℕ) (b : Bytes) where
   applies h =
       shown (ClusterRefused n m leading present b) (isSlots m) (isSize n) (eqb (length b) (imageAt m n)) (ltb present (2 ^ n)) leads
       (λ e. slots (λ p. so-not e (is-slots m (p .0) (p .1))))
-      (λ e. replicas (λ p. so-not e (size-decides n .back p)))
+      (λ e. replicas (λ p. so-not e (is-size n (omega (arith, p .0)) (omega (arith, p .1)))))
       (λ e. size (λ p. so-not e (eq-eqb (length b) (imageAt m n) (p ∙ full))))
       (λ e. let i = high-one n present (λ p. so-not e (lt-ltb present (2 ^ n) p)) in stray (i .at) (omega (arith, i .from)) (i .is))
       leads-not
@@ -160,7 +159,7 @@ module _ (n m leading present : ℕ) (b : Bytes) where
   at-most : (q : ℕ) → ClusterRefused n m leading present b q → UpTo q (clusterRefusal n m leading present b)
   unfolding clusterRefusal shapeRefusal has
   at-most q (slots h) = by-slots (isSlots m) (isSize n) (eqb (length b) (imageAt m n)) (ltb present (2 ^ n)) leads (not-so (isSlots m) (λ e. h (slots-low m e, slots-high m e)))
-  at-most q (replicas h) = by-replicas (isSlots m) (isSize n) (eqb (length b) (imageAt m n)) (ltb present (2 ^ n)) leads (not-so (isSize n) (λ e. h (size-decides n .so e)))
+  at-most q (replicas h) = by-replicas (isSlots m) (isSize n) (eqb (length b) (imageAt m n)) (ltb present (2 ^ n)) leads (not-so (isSize n) (λ e. h (omega (arith, size-low n e), omega (arith, size-high n e))))
   at-most q (size h) =
       by-size (isSlots m) (isSize n) (eqb (length b) (imageAt m n)) (ltb present (2 ^ n)) leads (not-so (eqb (length b) (imageAt m n)) (λ e. h (eqb-true (length b) (imageAt m n) e ∙ sym full)))
   at-most q (stray c l h) =

@@ -1,6 +1,7 @@
 -- Laws that the proofs of this crate, and of the crates above it, cite.
 pub mod VerdictTies
 pub mod AskingLaws
+pub mod MajorityLaws
 pub mod SetLaws
 pub mod SurveyLaws
 pub mod RuleLaws

@@ -14,6 +14,7 @@ use Rattle.search.specs.Search.{listed}
 use Rattle.image.specs.Refusal.{unlessRefused}
 use Rattle.image.specs.View.{View}
 use Rattle.image.specs.Answers.{value}
+use Rattle.image.proofs.CallLaws.{size-high}
 use Rattle.planner.specs.Setting.{Setting, settingOf, has}
 use Rattle.planner.specs.Rules.{Refused, Waiting, Ready, answer, end, firstWaiting}
 use Rattle.planner.specs.Plan.{viewsIn, planBytes, clusterRefusal, lentRefusal, planRefusal}
@@ -24,7 +25,6 @@ use Rattle.planner.specs.Survey.{SurveyOf, Planned}
 use Rattle.planner.specs.Answers.{planNumbers, answerNumbers, planNumbered, rowsOf}
 use Rattle.planner.specs.Tabulated.{answerAt, frontRows, numberRow, Outcome}
 use Rattle.planner.proofs.RowLaws.{lengths-fit, rows-are}
-use Rattle.planner.proofs.SeenLaws.{size-le}
 use Rattle.planner.proofs.ShapeLaws.{shaped-size}
 use Rattle.planner.proofs.CallLaws.{cluster-shaped}
 use Rattle.planner.proofs.LentLaws.{lent-rows, lent-zero}
@@ -123,7 +123,7 @@ pub table-fits : (n m leader present : ℕ) (b : Bytes) (bytes rows : ℕ) → p
 unfolding planRefusal lentRefusal
 table-fits n m leader present b bytes rows e = (
   lent-rows (clusterRefusal n m leader present b) n m bytes rows (sym e) refl,
-  size-le n (shaped-size n m present (length b) (cluster-shaped n m leader present b (lent-zero (clusterRefusal n m leader present b) n m bytes rows (sym e) refl))),
+  size-high n (shaped-size n m present (length b) (cluster-shaped n m leader present b (lent-zero (clusterRefusal n m leader present b) n m bytes rows (sym e) refl))),
 )
 
 -- ---- the call as a whole

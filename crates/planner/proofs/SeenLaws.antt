@@ -1,7 +1,7 @@
 -- The survey of a cluster, replica by replica.
 use Prim.Native.Nat.{ℕ, _+_, _*_, _-_, _<_, _≤_}
 use mathlib.Core.Path.{_≡_, refl, sym, _∙_, ap, subst}
-use mathlib.Core.Bool.{Bool, true, false, _||_, true≢false}
+use mathlib.Core.Bool.{true, false}
 use mathlib.Core.List.{List}
 use native.Mathlib.Omega.{arith}
 use native.Mathlib.Decide.{ℕ-discrete}
@@ -9,13 +9,13 @@ use native.Mathlib.Numerals.{add-one}
 use lib.Dec.{eqb}
 use lib.ListN.{length, getD, set, take, drop, length-set}
 use lib.Seq.{getD-set-same, getD-set-other}
-use borrow.Author.Tests.{eqb-true, eq-eqb, ne-eqb}
+use borrow.Author.Tests.{eq-eqb, ne-eqb}
 use Rattle.slices.specs.Parts.{Bytes}
 use Rattle.slices.proofs.PartLaws.{length-part}
 use Rattle.slices.proofs.SpliceLaws.{part-lent}
 use Rattle.slices.proofs.SameLaws.{and-off, clash}
 use Rattle.image.specs.Image.{Image, imageSize, decodeImage}
-use Rattle.image.specs.View.{View, isSize, viewOf, imageRefusal, conditionAt, epochAt}
+use Rattle.image.specs.View.{View, viewOf, imageRefusal, conditionAt, epochAt}
 use Rattle.image.specs.View.{conditionNumber}
 use Rattle.image.specs.Seen.{Seen, conditionsOf}
 use Rattle.image.specs.Cluster.{imageAt, imagePart, decode}
@@ -58,16 +58,6 @@ module _ (n m c : ℕ) (b : Bytes) (h : c < n) (len : length b ≡ imageAt m n) 
         × (r ≡ 0 → Seen m (decodeImage (c + 1) n m (take (start + size - start) (drop start b))) l cs es)
         → (r ≡ imageRefusal m (decode n m b c)) × (r ≡ 0 → Seen m (decode n m b c) l cs es)
     view-there {r} {l} {cs} {es} p = subst (λ (i : Image). (r ≡ imageRefusal m i) × (r ≡ 0 → Seen m i l cs es)) lent-is p
-
-pub size-le : (n : ℕ) → isSize n ≡ true → n ≤ 7
-unfolding isSize
-size-le n e = go (eqb n 3) (eqb n 5) (eqb n 7) refl refl refl e
-  where
-    go : (a b d : Bool) → eqb n 3 ≡ a → eqb n 5 ≡ b → eqb n 7 ≡ d → (a || b || d) ≡ true → n ≤ 7
-    go true b d x y z e = omega (arith, eqb-true n 3 x)
-    go false true d x y z e = omega (arith, eqb-true n 5 y)
-    go false false true x y z e = omega (arith, eqb-true n 7 z)
-    go false false false x y z e = absurd (true≢false (sym e))
 
 -- ---- copied slots
 

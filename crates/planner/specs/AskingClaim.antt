@@ -2,7 +2,7 @@
 use Prim.Native.Nat.{ℕ, suc, _+_, _/_, _<_}
 use mathlib.Core.Path.{_≡_}
 use mathlib.Core.Bool.{true, false, _&&_, _||_}
-use lib.Dec.{eqb, leb}
+use lib.Dec.{eqb, leb, ltb}
 use lib.ListN.{length}
 use Rattle.search.specs.Search.{oneIf}
 use Rattle.slices.specs.Parts.{Bytes}
@@ -27,5 +27,8 @@ pub record AskingClaim : Type 0 where
   -- a replica that is asked gives exactly one of the three answers, and no other replica gives one
   pub one-answer : (S : Setting) (W : ℕ → View) (k c : ℕ) → isLost (W c .condition k) ≡ false
       → oneIf (have S W k c) + oneIf (haveFaulty S W k c) + oneIf (dontHave S W k c) ≡ oneIf (answers S W c)
-  -- a majority is (n + 1) / 2
-  pub majority-is : (n : ℕ) → isSize n ≡ true → majority n ≡ (n + 1) / 2
+  -- a majority is (n + 1) / 2 of an odd n; of four it is three and of six four; d of n are one exactly if they are more than half
+  pub majority-odd : (k : ℕ) → majority (k + k + 1) ≡ (k + k + 1 + 1) / 2
+  pub majority-four : majority 4 ≡ 3
+  pub majority-six : majority 6 ≡ 4
+  pub majority-is : (n d : ℕ) → leb (majority n) d ≡ ltb n (d + d)

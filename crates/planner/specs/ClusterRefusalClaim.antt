@@ -1,7 +1,6 @@
 -- Document 01, "Refused by number", for a cluster: each number has its condition and no other, and the lowest that applies wins.
 use Prim.Native.Nat.{ℕ, pred, _+_, _*_, _/_, _%_, _^_, _≤_, _<_}
 use mathlib.Core.Path.{_≡_}
-use mathlib.Core.Logic.{_⊎_}
 use lib.ListN.{length}
 use Rattle.slices.specs.Parts.{Bytes}
 use Rattle.image.specs.View.{readRefusal}
@@ -21,7 +20,7 @@ InSet set c = set / 2 ^ c % 2 ≡ 1
 -- a call about the cluster b of n replicas with m slots each, with the leader's number and the present set
 pub data ClusterRefused (n m leading present : ℕ) (b : Bytes) : ℕ → Type 0 where
   slots : ¬ ((1 ≤ m) × (m ≤ 64)) → ClusterRefused n m leading present b 1
-  replicas : ¬ ((n ≡ 3) ⊎ (n ≡ 5) ⊎ (n ≡ 7)) → ClusterRefused n m leading present b 2
+  replicas : ¬ ((3 ≤ n) × (n ≤ 7)) → ClusterRefused n m leading present b 2
   size : ¬ (length b ≡ n * (28 + 274 * m)) → ClusterRefused n m leading present b 3
   -- a bit for no replica: theirs are the bits below n
   stray : (c : ℕ) → n ≤ c → InSet present c → ClusterRefused n m leading present b 11

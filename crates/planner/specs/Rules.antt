@@ -7,7 +7,7 @@ use Rattle.image.specs.View.{Condition, conditionNumber, View}
 use Rattle.image.specs.Read.{isWhole}
 use Rattle.planner.specs.Setting.{Setting}
 
--- more than half: (n + 1) / 2 for an odd n
+-- more than half of n, odd or even
 unfoldable pub majority : ℕ → ℕ
 majority n = n / 2 + 1
 

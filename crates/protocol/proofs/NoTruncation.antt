@@ -1,7 +1,7 @@
 -- No truncation at or below a slot that stood committed on a majority: neither by the leader (`end-above`) nor on a holder (`differing-above`).
 use mathlib.Core.Path.{_≡_, refl, sym, ap, _∙_}
 use mathlib.Core.Bool.{Bool, true, false, cond, not, true≢false}
-use Prim.Native.Nat.{ℕ, zero, suc, _+_, _-_, _/_, _≤_, _<_}
+use Prim.Native.Nat.{ℕ, zero, suc, _+_, _-_, _≤_, _<_}
 use native.Mathlib.Omega.{arith}
 use native.Mathlib.Decide.{decLt}
 use lib.Dec.{eqb, ltb}
@@ -17,14 +17,15 @@ use Rattle.image.specs.View.{View, Whole, Faulty, condition, conditionAt, isBla
 use Rattle.image.proofs.ViewLaws.{used-below}
 use Rattle.planner.specs.Setting.{Setting, viewsOf}
 use Rattle.planner.specs.Rules.{majority, mayTruncate, isUsed, isFaulty, answers, agrees, dontHave, donor, Keep, Fetch, Wait, isTruncate, rule, end}
+use Rattle.planner.proofs.MajorityLaws.{majorities-meet}
 use Rattle.protocol.specs.Recovery.{differs, firstDiffering}
 use Rattle.protocol.proofs.Slots.{answers-readable}
 use Rattle.protocol.proofs.Consistency.{Consistent}
 
 -- all that is asked of the rule for a truncation: don't-haves and a majority are together more than n
 truncate-needs : (n d : ℕ) → mayTruncate n d ≡ true → n < majority n + d
-unfolding mayTruncate majority
-truncate-needs n d e = omega (arith, leb-true (n / 2 + 1) d e)
+unfolding mayTruncate
+truncate-needs n d e = omega (arith, leb-true (majority n) d e, majorities-meet n)
 
 -- slot k of a replica is used under epoch e
 pub record Holding (k e : ℕ) (a : View) : Type 0 where

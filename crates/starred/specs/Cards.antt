@@ -24,15 +24,25 @@ one r x = headerBytes 1 3 1 ++ (r ++ x)
 unfoldable pub two : Bytes → Bytes → Bytes → Bytes → Bytes
 two r s x y = headerBytes 1 3 2 ++ (r ++ (s ++ (x ++ y)))
 
--- the image of replica c of 5, with one slot: its entry is noise; it has it; it does not
-unfoldable pub faulty : ℕ → Bytes
-faulty c = headerBytes c 5 1 ++ (recordBytes 1 1 ++ noise)
+-- the image of replica c of n, with one slot: its entry is noise; it has it; it does not
+unfoldable pub faultyOf : ℕ → ℕ → Bytes
+faultyOf n c = headerBytes c n 1 ++ (recordBytes 1 1 ++ noise)
 
-unfoldable pub has : ℕ → Bytes
-has c = headerBytes c 5 1 ++ (recordBytes 1 1 ++ whole 1 1)
+unfoldable pub hasOf : ℕ → ℕ → Bytes
+hasOf n c = headerBytes c n 1 ++ (recordBytes 1 1 ++ whole 1 1)
 
-unfoldable pub lacks : ℕ → Bytes
-lacks c = headerBytes c 5 1 ++ (blankRecord ++ freshEntry)
+unfoldable pub lacksOf : ℕ → ℕ → Bytes
+lacksOf n c = headerBytes c n 1 ++ (blankRecord ++ freshEntry)
+
+-- of 5
+abbrev pub faulty : ℕ → Bytes
+faulty = faultyOf 5
+
+abbrev pub has : ℕ → Bytes
+has = hasOf 5
+
+abbrev pub lacks : ℕ → Bytes
+lacks = lacksOf 5
 
 -- five replicas with one slot, leader 1, and this present set
 abbrev pub five : ℕ → Numbers

@@ -1,3 +1,4 @@
--- The starred places, and the cards that they speak of.
+-- The starred places, those of each n, and the cards that they speak of.
 pub mod Cards
 pub mod Starred
+pub mod Sizes

@@ -5,7 +5,9 @@ ghost use mathlib.Core.Bool.{not};
 ghost use lib.ListN.{length};
 ghost use Rattle.image.specs.View.{isSize, callRefusal};
 ghost use Rattle.image.specs.Scan.{lengthIn, noGapIn, noneLostIn, risingIn, scanRefusal};
+use image::MAX_REPLICAS;
 use image::MAX_SLOTS;
+use image::MIN_REPLICAS;
 use image::condition;
 use locate::image_size;
 
@@ -13,13 +15,13 @@ use locate::image_size;
 pub fn is_size(n: usize) -> bool
     ensures { λ r. ⌜ r ≡ isSize n ⌝ }
 {
-    if n == 3 {
-        return true;
+    if n < MIN_REPLICAS {
+        return false;
     }
-    if n == 5 {
-        return true;
+    if MAX_REPLICAS < n {
+        return false;
     }
-    n == 7
+    true
 }
 
 // Refusals 1 to 3: what the caller names, and the size of the buffer.

@@ -18,12 +18,18 @@ pub fn compare_plan(rng: &mut Rng, call: &Call, tally: &mut Tally) {
     }
 }
 
-/// The status, each byte of the plan, and each row: of no replica within reach 0, of an empty log 1,
-/// of a log with an epoch 2.
+/// The status, each byte of the plan, for each n whether a slot is cut or waits, and each row: of no
+/// replica within reach 0, of an empty log 1, of a log with an epoch 2.
 fn count_plan(outcome: &Outcome, tally: &mut Tally) {
+    let (plan, n) = (outcome.bytes("plan"), outcome.rows("rows").len());
     tally.count("status", outcome.number("status") as usize);
-    for &byte in outcome.bytes("plan") {
+    for &byte in plan {
         tally.count("plan byte", usize::from(byte));
+    }
+    for (name, byte) in [("waits of n", 3), ("cut of n", 4)] {
+        if plan.contains(&byte) {
+            tally.count(name, n);
+        }
     }
     for row in outcome.rows("rows") {
         let epoch = usize::from(row.last_epoch > 0);
@@ -69,6 +75,8 @@ pub fn plans(seed: u64, clusters: u64) -> Tally {
     tally.assert_each("status", &[0, 1], some);
     let bytes = [0, 1, 2, 3, 4, 5, 11, 12, 13, 14, 15, 16, 17];
     tally.assert_each("plan byte", &bytes, some);
+    tally.assert_each("waits of n", &[3, 4, 5, 6, 7], some);
+    tally.assert_each("cut of n", &[3, 4, 5, 6, 7], some);
     tally.assert_each("row", &[0, 1, 2], some);
     tally.assert_each("wrong plan", &[0, 1], some);
     tally.assert_each("wrong table", &[0, 1], some);
@@ -129,7 +137,7 @@ pub fn recoveries(seed: u64, clusters: u64) -> Tally {
     tally.assert_each("Step", &[0, 1, 2], many);
     tally.assert_each("Run", &[0, 1, 2], many);
     tally.assert_each("kind", &[1, 2, 3], many);
-    tally.assert_each("n", &[3, 5, 7], many);
+    tally.assert_each("n", &[3, 4, 5, 6, 7], many);
     tally.assert_each("stores", &[1, 10], many);
     tally.assert_each("stores", &[100], one_of(10_000, clusters));
     tally

@@ -2,13 +2,13 @@
 
 use super::build::Cluster;
 use super::damage::{damage_entry, damage_header, damage_record, some_entry, some_payload};
-use super::history::{some_present, some_slot_count};
+use super::history::{some_present, some_replica_count, some_slot_count};
 use super::rng::Rng;
 use super::Case;
 
 /// A cluster whose logs need not agree.
 pub fn arbitrary_case(rng: &mut Rng) -> Case {
-    let n = *rng.pick(&[3, 3, 3, 5, 5, 7]);
+    let n = some_replica_count(rng);
     let m = some_slot_count(rng);
     arbitrary_case_of(rng, n, m)
 }

@@ -62,7 +62,7 @@ type ReplicaLog = Vec<(Appended, Arrival)>;
 
 /// A damaged cluster as the suppositions of recovery allow it.
 pub fn agreed_case(rng: &mut Rng) -> AgreedCase {
-    let n = *rng.pick(&[3, 3, 3, 5, 5, 7]);
+    let n = some_replica_count(rng);
     let m = some_slot_count(rng);
     agreed_case_of(rng, n, m)
 }
@@ -86,7 +86,12 @@ pub fn agreed_case_of(rng: &mut Rng, n: usize, m: usize) -> AgreedCase {
     }
 }
 
-/// Mostly few slots, so that many cases are played.
+/// Mostly few replicas, so that many cases are played.
+pub fn some_replica_count(rng: &mut Rng) -> usize {
+    *rng.pick(&[3, 3, 3, 4, 4, 5, 5, 6, 7])
+}
+
+/// Mostly few slots, for the same reason.
 pub fn some_slot_count(rng: &mut Rng) -> usize {
     match rng.below(1000) {
         0 => 64,

@@ -6,7 +6,7 @@ use super::pieces::{payload_of, some_word};
 use super::rng::Rng;
 use crate::model::{
     entry_offset, fresh_image, image_len, record_offset, write_entry, write_record, BLANK_RECORD,
-    ENTRY_LEN, HEADER_LEN, MAX_PAYLOAD, RECORD_LEN,
+    ENTRY_LEN, HEADER_LEN, MAX_PAYLOAD, MAX_REPLICAS, MIN_REPLICAS, RECORD_LEN,
 };
 
 /// An image, and what the calls about it name and lend.
@@ -26,7 +26,7 @@ pub struct ImageCalls {
 
 /// Calls about an image of m slots, or of what was one.
 pub fn image_calls(rng: &mut Rng, m: usize) -> ImageCalls {
-    let n = *rng.pick(&[3, 5, 7]);
+    let n = rng.between(MIN_REPLICAS, MAX_REPLICAS);
     let replica = rng.between(1, n);
     let mut image = vec![0; image_len(m)];
     fresh_image(&mut image, replica, n, m).expect("the numbers are accepted");

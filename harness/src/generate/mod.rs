@@ -24,7 +24,7 @@ pub use noise::{noise_cluster, noise_image, noise_report_input, ImageCase};
 pub use pieces::{entry_piece, header_piece, record_piece, HeaderPiece, Piece};
 pub use recovery::{recovery_case, recovery_case_of};
 pub use rng::Rng;
-pub use small::{small_case, SMALL_CASES};
+pub use small::{Small, FOUR, THREE};
 
 /// A cluster with the numbers a call names beside it.
 #[derive(Clone, Debug, PartialEq, Eq)]

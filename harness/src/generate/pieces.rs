@@ -205,7 +205,7 @@ pub fn entry_piece(rng: &mut Rng) -> Piece {
 
 /// A header, written for its numbers or not, or 28 bytes that are none.
 pub fn header_piece(rng: &mut Rng) -> HeaderPiece {
-    let mut number = || *rng.pick(&[0, 1, 2, 3, 5, 7, 9, 10, 63, 64, 65, 100, 999]);
+    let mut number = || *rng.pick(&[0, 1, 2, 3, 4, 5, 6, 7, 9, 10, 63, 64, 65, 100, 999]);
     let numbers = [number(), number(), number()];
     let mut bytes = if rng.chance(97) { *b"rope" } else { *b"r0pe" }.to_vec();
     push_column(rng, &mut bytes, 3, 1);

@@ -5,7 +5,7 @@ use super::history::agreed_case_of;
 use super::noise::noise_cluster_of;
 use super::rng::Rng;
 use super::Case;
-use crate::model::MAX_SLOTS;
+use crate::model::{MAX_REPLICAS, MAX_SLOTS, MIN_REPLICAS};
 
 /// A cluster of any kind and size.
 pub fn recovery_case(rng: &mut Rng) -> Case {
@@ -30,10 +30,13 @@ pub fn recovery_case_of(rng: &mut Rng, n: usize, m: usize) -> Case {
 fn some_shape(rng: &mut Rng) -> (usize, usize) {
     match rng.below(100_000) {
         0..=3 => (7, MAX_SLOTS),
-        4..=33 => (*rng.pick(&[3, 5, 7]), rng.between(13, MAX_SLOTS)),
-        34..=2000 => (*rng.pick(&[3, 5, 7]), rng.between(4, 12)),
+        4..=33 => (
+            rng.between(MIN_REPLICAS, MAX_REPLICAS),
+            rng.between(13, MAX_SLOTS),
+        ),
+        34..=2000 => (rng.between(MIN_REPLICAS, MAX_REPLICAS), rng.between(4, 12)),
         _ => (
-            *rng.pick(&[3, 3, 3, 3, 3, 5, 5, 7]),
+            *rng.pick(&[3, 3, 3, 3, 4, 4, 5, 6, 7]),
             *rng.pick(&[1, 1, 1, 2, 2, 3]),
         ),
     }

@@ -1,10 +1,9 @@
-//! Every agreed cluster of three replicas and one slot, over two epochs, up to the kind of bytes.
+//! Agreed clusters of one slot over two epochs, up to the kind of bytes: all of three replicas, and of
+//! four those of fewer kinds.
 
 use super::build::Cluster;
 use super::history::{AgreedCase, Committed};
 use super::Case;
-
-const REPLICAS: usize = 3;
 
 /// What one replica holds in its only slot, with its header good or not.
 #[derive(Clone, Copy, Debug, PartialEq, Eq)]
@@ -55,46 +54,99 @@ const KINDS: [Held; 19] = [
     Unreadable(2),
 ];
 
-/// Leaders, times the sets of others that are present beside the leader.
-const VIEWS: usize = REPLICAS * 4;
+/// Fewer of them, for more replicas.
+const FEWER_KINDS: [Held; 9] = [
+    Unused(Spaces),
+    Unused(Appended(1)),
+    Used(1, Appended(1)),
+    Used(1, Noise),
+    Used(1, Forgotten(2)),
+    RecordLost(1),
+    Used(2, Appended(2)),
+    Used(2, Noise),
+    Unreadable(1),
+];
 
-/// How many cases there are.
-pub const SMALL_CASES: usize = KINDS.len() * KINDS.len() * KINDS.len() * VIEWS;
+/// Every cluster of so many replicas that hold one of these kinds each.
+pub struct Small {
+    replicas: usize,
+    kinds: &'static [Held],
+}
 
-/// The case of a number below `SMALL_CASES`.
-pub fn small_case(number: usize) -> AgreedCase {
-    let (leader, present) = view(number % VIEWS);
-    let mut rest = number / VIEWS;
-    let mut cluster = Cluster::fresh(REPLICAS, 1);
-    let mut holders = [0u32; 3];
-    for replica in 1..=REPLICAS {
-        let held = KINDS[rest % KINDS.len()];
-        rest /= KINDS.len();
-        put(&mut cluster, replica, held);
-        holders[held.epoch() as usize] |= 1 << (replica - 1);
+pub const THREE: Small = Small {
+    replicas: 3,
+    kinds: &KINDS,
+};
+
+pub const FOUR: Small = Small {
+    replicas: 4,
+    kinds: &FEWER_KINDS,
+};
+
+impl Small {
+    /// How many cases there are.
+    pub fn cases(&self) -> usize {
+        self.kinds.len().pow(self.replicas as u32) * self.views()
     }
-    let mut committed = Vec::new();
-    for epoch in 1..=2 {
-        let holders = holders[epoch as usize];
-        let leader_holds = holders >> (leader - 1) & 1 == 1;
-        if leader_holds && holders.count_ones() >= 2 {
-            committed.push(Committed {
-                slot: 1,
-                epoch,
-                payload: appended(epoch).to_vec(),
-                holders,
-            });
+
+    /// The case of a number below that.
+    pub fn case(&self, number: usize) -> AgreedCase {
+        let (leader, present) = self.view(number % self.views());
+        let mut rest = number / self.views();
+        let mut cluster = Cluster::fresh(self.replicas, 1);
+        let mut holders = [0u32; 3];
+        for replica in 1..=self.replicas {
+            let held = self.kinds[rest % self.kinds.len()];
+            rest /= self.kinds.len();
+            put(&mut cluster, replica, held);
+            holders[held.epoch() as usize] |= 1 << (replica - 1);
+        }
+        let mut committed = Vec::new();
+        for epoch in 1..=2 {
+            let holders = holders[epoch as usize];
+            let leader_holds = holders >> (leader - 1) & 1 == 1;
+            if leader_holds && holders.count_ones() as usize > self.replicas / 2 {
+                committed.push(Committed {
+                    slot: 1,
+                    epoch,
+                    payload: appended(epoch).to_vec(),
+                    holders,
+                });
+            }
+        }
+        AgreedCase {
+            case: Case {
+                n: self.replicas,
+                m: 1,
+                leader,
+                present,
+                cluster: cluster.bytes,
+            },
+            committed,
         }
     }
-    AgreedCase {
-        case: Case {
-            n: REPLICAS,
-            m: 1,
-            leader,
-            present,
-            cluster: cluster.bytes,
-        },
-        committed,
+
+    /// Leaders, times the sets of others that are present beside the leader.
+    fn views(&self) -> usize {
+        self.replicas * self.others()
+    }
+
+    fn others(&self) -> usize {
+        1 << (self.replicas - 1)
+    }
+
+    /// A leader and a present word with the leader in it.
+    fn view(&self, number: usize) -> (usize, u32) {
+        let leader = number / self.others() + 1;
+        let mut others = (number % self.others()) as u32;
+        let mut present = 1 << (leader - 1);
+        for replica in 1..=self.replicas {
+            if replica != leader {
+                present |= (others & 1) << (replica - 1);
+                others >>= 1;
+            }
+        }
+        (leader, present)
     }
 }
 
@@ -106,20 +158,6 @@ impl Held {
             Used(epoch, _) | RecordLost(epoch) | Unreadable(epoch) => epoch,
         }
     }
-}
-
-/// A leader and a present word with the leader in it.
-fn view(number: usize) -> (usize, u32) {
-    let leader = number / 4 + 1;
-    let mut others = (number % 4) as u32;
-    let mut present = 1 << (leader - 1);
-    for replica in 1..=REPLICAS {
-        if replica != leader {
-            present |= (others & 1) << (replica - 1);
-            others >>= 1;
-        }
-    }
-    (leader, present)
 }
 
 fn put(cluster: &mut Cluster, replica: usize, held: Held) {

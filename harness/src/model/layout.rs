@@ -10,6 +10,9 @@ pub const ENTRY_LEN: usize = 240;
 pub const MAX_PAYLOAD: usize = 200;
 /// The most slots (the paper's places) an image has.
 pub const MAX_SLOTS: usize = 64;
+/// The fewest and the most replicas (the paper's cabinets) of a cluster.
+pub const MIN_REPLICAS: usize = 3;
+pub const MAX_REPLICAS: usize = 7;
 
 /// Bytes of an image of m slots.
 pub fn image_len(m: usize) -> usize {

@@ -25,7 +25,7 @@ pub use fresh::fresh_image;
 pub use header::{header_is_good, write_header};
 pub use layout::{
     cluster_len, entry_offset, image_len, image_offset, record_offset, ENTRY_LEN, HEADER_LEN,
-    MAX_PAYLOAD, MAX_SLOTS, RECORD_LEN,
+    MAX_PAYLOAD, MAX_REPLICAS, MAX_SLOTS, MIN_REPLICAS, RECORD_LEN,
 };
 pub use payload::{has_payload, payload};
 pub use planner::{plan, Answer};

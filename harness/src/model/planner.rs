@@ -99,7 +99,7 @@ fn decide_slot(survey: &Survey, slot: usize) -> u8 {
     }
 }
 
-/// Fetch if anyone has it, else truncate if a majority does not, else wait.
+/// Fetch if anyone has it, else truncate if a majority, more than half of all, does not, else wait.
 fn decide_faulty_slot(survey: &Survey, slot: usize) -> u8 {
     let mut dont_have: u32 = 0;
     for replica in 1..=survey.n {
@@ -109,9 +109,7 @@ fn decide_faulty_slot(survey: &Survey, slot: usize) -> u8 {
             Some(Reply::HaveFaulty) | None => {}
         }
     }
-    // n is odd, so this is half of n + 1.
-    let majority = survey.n as u32 / 2 + 1;
-    if dont_have.count_ones() >= majority {
+    if 2 * dont_have.count_ones() as usize > survey.n {
         PLAN_TRUNCATE
     } else {
         PLAN_WAIT

@@ -3,7 +3,8 @@
 use super::entry::{judge_entry, EntryState};
 use super::header::header_is_good;
 use super::layout::{
-    entry_offset, image_len, record_offset, ENTRY_LEN, HEADER_LEN, MAX_SLOTS, RECORD_LEN,
+    entry_offset, image_len, record_offset, ENTRY_LEN, HEADER_LEN, MAX_REPLICAS, MAX_SLOTS,
+    MIN_REPLICAS, RECORD_LEN,
 };
 use super::record::{judge_record, RecordState};
 use super::refusal::Refusal;
@@ -127,7 +128,7 @@ pub fn check_counts(n: usize, m: usize) -> Result<(), Refusal> {
     if !(1..=MAX_SLOTS).contains(&m) {
         return Err(Refusal::SlotCount);
     }
-    if n != 3 && n != 5 && n != 7 {
+    if !(MIN_REPLICAS..=MAX_REPLICAS).contains(&n) {
         return Err(Refusal::ReplicaCount);
     }
     Ok(())

@@ -5,7 +5,7 @@
 pub enum Refusal {
     /// m is not 1 to 64.
     SlotCount = 1,
-    /// n is not 3, 5 or 7, or the replica is not 1 to n.
+    /// n is not 3 to 7, or the replica is not 1 to n.
     ReplicaCount = 2,
     /// The image or cluster buffer has the wrong length.
     BufferLength = 3,

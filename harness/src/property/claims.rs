@@ -92,6 +92,9 @@ impl<'a> Start<'a> {
         }
         if self.answer.is_ok() {
             coverage.committed += self.committed.len() as u64;
+            if self.case.n % 2 == 0 {
+                coverage.even += self.committed.len() as u64;
+            }
             coverage.truncated += u64::from(self.plan.contains(&PLAN_TRUNCATE));
         }
         coverage.most_stores = coverage.most_stores.max(self.stores);

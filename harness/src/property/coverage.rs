@@ -11,6 +11,8 @@ pub struct Coverage {
     /// Plans that truncate the leader.
     pub truncated: u64,
     pub committed: u64,
+    /// Those of clusters of four or six.
+    pub even: u64,
     /// Committed payloads whose copy on the leader was faulty, with a copy within reach.
     pub fetched: u64,
     /// The same with none.
@@ -37,8 +39,8 @@ impl fmt::Display for Coverage {
         )?;
         writeln!(
             f,
-            "  committed: {}, of them fetched {}, out of reach {}, record lost {}",
-            self.committed, self.fetched, self.out_of_reach, self.records_lost
+            "  committed: {}, of them in even clusters {}, fetched {}, out of reach {}, record lost {}",
+            self.committed, self.even, self.fetched, self.out_of_reach, self.records_lost
         )?;
         writeln!(
             f,

@@ -10,7 +10,7 @@ pub mod walk;
 pub use coverage::Coverage;
 
 use crate::code::Code;
-use crate::generate::{agreed_case, arbitrary_case, noise_cluster, small_case, Rng};
+use crate::generate::{agreed_case, arbitrary_case, noise_cluster, Rng, Small};
 use crate::progress;
 use claims::Start;
 use std::ops::Range;
@@ -65,15 +65,20 @@ pub fn check_arbitrary(code: Code, seed: u64, cases: u64) -> Result<Coverage, St
 }
 
 /// Small clusters, all their states one after the other.
-pub fn check_small(code: Code, numbers: Range<usize>) -> Result<Coverage, String> {
+pub fn check_small(code: Code, small: &Small, numbers: Range<usize>) -> Result<Coverage, String> {
     let mut coverage = Coverage::default();
     for number in numbers {
-        let agreed = small_case(number);
+        let agreed = small.case(number);
         let start = Start::new(code, &agreed.case, &agreed.committed);
         start
             .check_first(&mut coverage)
             .and_then(|()| walk::walk(&start, &mut coverage))
-            .map_err(|what| format!("small case {number} by {}: {what}", code.name))?;
+            .map_err(|what| {
+                format!(
+                    "small case {number} of {} replicas by {}: {what}",
+                    agreed.case.n, code.name
+                )
+            })?;
     }
     Ok(coverage)
 }

@@ -191,7 +191,7 @@ fn spoil_call(rng: &mut Rng, case: &mut Case) -> u8 {
             1
         }
         1 => {
-            case.n = *rng.pick(&[0, 1, 2, 4, 6, 8, usize::MAX]);
+            case.n = *rng.pick(&[0, 1, 2, 8, 9, usize::MAX]);
             2
         }
         2 => {

@@ -2,8 +2,10 @@
 use native.Mathlib.Omega.{arith}
 use Rattle.image.proofs.ViewLaws.{sound-elim}
 use Rattle.image.proofs.VerdictLaws.{whole-verdict}
+use Rattle.planner.specs.Rules.{majority}
 use Rattle.planner.proofs.VerdictTies.{faulty-verdict, used-verdict}
 use Rattle.planner.proofs.AskingLaws as law
+use Rattle.planner.proofs.MajorityLaws as many
 use Rattle.planner.proofs.asking_claim.Statement.{statement}
 use Rattle.planner.proofs.asking_claim.Tie as tie
 
@@ -14,7 +16,10 @@ returns z = record {
   used = λ m i k ok h. used-verdict m i k (sound-elim m i ok .kept k h);
   readable = law.own-refusal;
   one-answer = law.one-answer;
-  majority-is = λ n h. omega (arith, law.majority-is n h);
+  majority-odd = λ k. omega (arith, many.majority-odd k);
+  majority-four = unfold majority in omega arith;
+  majority-six = unfold majority in omega arith;
+  majority-is = many.majority-is;
 }
 
 pub asking-claim-spec : {M : Type 1} → statement M

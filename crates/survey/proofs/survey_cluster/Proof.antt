@@ -3,8 +3,8 @@ use mathlib.Core.Path.{refl, sym, _∙_}
 use borrow.Author.Tests.{not-true, not-false}
 use Rattle.planner.specs.Setting.{settingOf}
 use Rattle.planner.specs.Plan.{viewsIn}
-use Rattle.image.proofs.CallLaws.{slots-high}
-use Rattle.planner.proofs.SeenLaws.{size-le, Partly, partly-none, partly-skip, partly-all, absent-off, refused-off, seen-more, surveyed-any}
+use Rattle.image.proofs.CallLaws.{slots-high, size-high}
+use Rattle.planner.proofs.SeenLaws.{Partly, partly-none, partly-skip, partly-all, absent-off, refused-off, seen-more, surveyed-any}
 use borrow.Author.Needs.{needs}
 use native.Mathlib.Omega.{arith}
 use Rattle.survey.proofs.survey_cluster.Statement.{statement}
@@ -17,7 +17,7 @@ abbrev μ-replicas : tie.MeasureT-replicas
 μ-replicas cluster n m present readable₀ lengths₀ conditions₀ epochs₀ c₀ readable lengths conditions epochs c = n - c
 
 replicas-holds : tie.Need-replicas-holds Inv-replicas μ-replicas
-replicas-holds c = (size-le _ (c .before .pre .0), search needs, partly-none _ _ _ _ _ refl refl refl)
+replicas-holds c = (size-high _ (c .before .pre .0), search needs, partly-none _ _ _ _ _ refl refl refl)
 
 contains-requires : tie.Need-contains-requires Inv-replicas μ-replicas
 contains-requires c κs = search needs

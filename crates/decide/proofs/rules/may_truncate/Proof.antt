@@ -1,9 +1,8 @@
-use mathlib.Core.Path.{refl}
 use native.Mathlib.Omega.{arith}
 use borrow.Author.Needs.{needs}
 use lib.Count.{ones-le}
-use Rattle.planner.specs.Rules.{mayTruncate, majority}
-use Rattle.planner.proofs.SetLaws.{ones-set}
+use Rattle.planner.specs.Rules.{majority}
+use Rattle.planner.proofs.MajorityLaws.{truncates}
 use Rattle.decide.proofs.rules.may_truncate.Statement.{statement}
 use Rattle.decide.proofs.rules.may_truncate.Tie as tie
 
@@ -17,8 +16,8 @@ add-result : tie.Need-add-result
 add-result c = search needs
 
 returns : tie.Need-returns
-unfolding mayTruncate majority
-returns c = λ l. rw (c .lacking .ensures l, ones-set) refl
+unfolding majority
+returns c = λ l. truncates (c .before .args .n) _ _ _ (omega arith) (c .lacking .ensures l)
 
 pub may-truncate-spec : {M : Type 1} → statement M
 may-truncate-spec = tie.close (tie.spec lacking-requires cast-result add-result returns)

@@ -1,4 +1,4 @@
-use Rattle.planner.proofs.SeenLaws.{size-le}
+use Rattle.image.proofs.CallLaws.{size-high}
 use Rattle.report.proofs.CommandLaws as law
 use native.Mathlib.Omega.{arith}
 use borrow.Author.Needs.{needs}
@@ -12,7 +12,7 @@ enum-told : tie.Need-enum-told
 enum-told c = search needs
 
 returns : tie.Need-returns
-returns c = λ h. absurd (omega (arith, size-le _ h))
+returns c = λ h. absurd (omega (arith, size-high _ h))
 
 all-replicas-requires : tie.Need-all-replicas-requires
 all-replicas-requires c κs = search needs

@@ -1,7 +1,6 @@
 use mathlib.Core.Path.{sym, _∙_}
 use borrow.Author.Tests.{not-true, not-false}
-use Rattle.image.proofs.CallLaws.{slots-few, slots-many, is-slots}
-use Rattle.planner.proofs.SeenLaws.{size-le}
+use Rattle.image.proofs.CallLaws.{slots-few, slots-many, is-slots, size-high}
 use Rattle.planner.proofs.ShapeLaws.{shape-slots, shape-size, shape-bytes, shape-set, shape-none, cluster-fits}
 use native.Mathlib.Omega.{arith}
 use borrow.Author.Needs.{needs}
@@ -22,7 +21,7 @@ returns-3 c = shape-size _ _ _ _ (is-slots _ (c .before .before .before .if1 .le
 
 image-at-requires : tie.Need-image-at-requires
 image-at-requires c κs =
-    let few = size-le (c .before .before .before .before .args .n) (sym (c .before .is-size .ensures) ∙ not-false _ (c .if3 .left)) in
+    let few = size-high (c .before .before .before .before .args .n) (sym (c .before .is-size .ensures) ∙ not-false _ (c .if3 .left)) in
     (omega arith, omega (arith, cluster-fits (c .before .before .before .before .args .n) (c .before .before .before .before .args .m) few (omega arith)))
 
 returns-4 : tie.Need-returns-4
@@ -33,12 +32,12 @@ returns-4 c =
 cast-if5 : tie.Need-cast-if5
 cast-if5 c =
     let d = c .before .before in
-    omega (arith, size-le (d .before .before .before .before .args .n) (sym (d .before .is-size .ensures) ∙ not-false _ (d .if3 .left)))
+    omega (arith, size-high (d .before .before .before .before .args .n) (sym (d .before .is-size .ensures) ∙ not-false _ (d .if3 .left)))
 
 shr-if5 : tie.Need-shr-if5
 shr-if5 c =
     let d = c .before .before in
-    omega (arith, size-le (d .before .before .before .before .args .n) (sym (d .before .is-size .ensures) ∙ not-false _ (d .if3 .left)))
+    omega (arith, size-high (d .before .before .before .before .args .n) (sym (d .before .is-size .ensures) ∙ not-false _ (d .if3 .left)))
 
 returns-5 : tie.Need-returns-5
 returns-5 c =

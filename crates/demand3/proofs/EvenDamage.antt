@@ -1,0 +1,75 @@
+-- The four stood as demand 3 supposes before their damage, and the damage is of the kind that it supposes.
+use Prim.Native.Nat.{ℕ, zero, suc, _<_}
+use mathlib.Core.Path.{refl}
+use mathlib.Core.Bool.{Bool, true, false, cond}
+use native.Mathlib.Omega.{arith}
+use lib.Dec.{ltb}
+use Rattle.search.specs.Search.{lowest, count, sum, oneIf}
+use Rattle.slices.specs.Same.{same}
+use Rattle.image.specs.Cluster.{decode}
+use Rattle.image.specs.View.{epochOf, epochAt, isBlank, logLength}
+use Rattle.planner.specs.Setting.{settingOf}
+use Rattle.planner.specs.Rules.{majority}
+use Rattle.protocol.specs.Call.{named}
+use Rattle.example.specs.Undamaged.{payloadA, imageWith, emptyImage, imageA, undamagedFour}
+use Rattle.example.specs.Four.{four, evenCluster}
+use Rattle.example.proofs.ComputedLaws.{computed}
+use Rattle.demand3.specs.Supposed.{History, held, committed}
+use Rattle.demand3.specs.Before.{FlightSlot, arrived, Before, spared, entryDamaged, headerSpared, Damage, payloadIn, historyOf, DamagedCluster}
+use Rattle.demand3.specs.Histories.{writtenTo, flightsFour}
+use Rattle.demand3.proofs.ExampleDamage.{stale, noisy, stored-A, one-slot, Alike, agreed, alike-A, alike-empty}
+
+-- in flight or not, what arrived is what was written
+flying-A : (k : ℕ) → k < 1 → FlightSlot (writtenTo k) (imageA .records k) (imageA .entries k)
+unfolding imageA imageWith writtenTo
+flying-A zero h = arrived
+flying-A (suc k) h = absurd (omega arith)
+
+before-four : (c : ℕ) → c < 4 → Before 1 (flightsFour c) (undamagedFour c)
+unfolding flightsFour undamagedFour logLength lowest isBlank imageA emptyImage imageWith
+before-four zero h = record { stored = λ k l e. stored-A k l; flying = λ k l e. flying-A k l }
+before-four (suc zero) h = record { stored = λ k l e. stored-A k l; flying = λ k l e. flying-A k l }
+before-four (suc (suc zero)) h = record { stored = λ k l e. stored-A k l; flying = λ k l e. flying-A k l }
+before-four (suc (suc (suc zero))) h = record { stored = λ k l e. absurd (omega arith); flying = λ k l e. absurd (omega arith) }
+before-four (suc (suc (suc (suc c)))) h = absurd (omega arith)
+
+damage-four : (c : ℕ) → c < 4 → Damage 1 (undamagedFour c) (decode 4 1 evenCluster c)
+unfolding undamagedFour imageA emptyImage imageWith four
+damage-four zero h = record {
+  header = rw (computed .even-header-0) headerSpared;
+  slots = one-slot (undamagedFour 0) (decode 4 1 evenCluster 0) (rw (computed .even-0 .rec, computed .even-0 .ent) (entryDamaged stale));
+}
+damage-four (suc zero) h = record {
+  header = rw (computed .even-header-1) headerSpared;
+  slots = one-slot (undamagedFour 1) (decode 4 1 evenCluster 1) (rw (computed .even-1 .rec, computed .even-1 .ent) (entryDamaged noisy));
+}
+damage-four (suc (suc zero)) h = record {
+  header = rw (computed .even-header-2) headerSpared;
+  slots = one-slot (undamagedFour 2) (decode 4 1 evenCluster 2) (rw (computed .even-2 .rec, computed .even-2 .ent) spared);
+}
+damage-four (suc (suc (suc zero))) h = record {
+  header = rw (computed .even-header-3) headerSpared;
+  slots = one-slot (undamagedFour 3) (decode 4 1 evenCluster 3) (rw (computed .even-3 .rec, computed .even-3 .ent) spared);
+}
+damage-four (suc (suc (suc (suc c)))) h = absurd (omega arith)
+
+unfoldable historiesFour : ℕ → History
+historiesFour c = historyOf 1 (flightsFour c) (undamagedFour c)
+
+alike-four : (c : ℕ) → Alike 2 writtenTo (historiesFour c)
+unfolding historiesFour flightsFour undamagedFour
+alike-four c = go (ltb c 3)
+  where
+    go : (t : Bool) → Alike 2 writtenTo (historyOf 1 (flightsFour c) (cond t imageA emptyImage))
+    go true = alike-A (flightsFour c .inFlight)
+    go false = alike-empty 0 (flightsFour c)
+
+pub damaged-four : DamagedCluster (named four) undamagedFour flightsFour (decode 4 1 evenCluster) 0 2 payloadA
+unfolding four settingOf majority historiesFour count sum oneIf committed held historyOf undamagedFour imageA emptyImage imageWith flightsFour epochAt epochOf logLength lowest isBlank payloadIn payloadA same
+damaged-four = record {
+  before = before-four;
+  damage = damage-four;
+  agree = agreed 4 2 writtenTo historiesFour (λ c h. alike-four c);
+  onMajority = omega arith;
+  leaderHeld = refl;
+}

@@ -1,0 +1,24 @@
+-- A damaged cluster of four replicas with one slot: A stood committed on three of them, no more than a majority. The leader has an entry of
+-- epoch 1 in its place, replica 2 noise, replica 3 has it whole, and replica 4 never had it.
+use mathlib.Core.List.{_++_}
+use Prim.Native.Nat.{_+_}
+use Rattle.slices.specs.Parts.{Bytes, spliced}
+use Rattle.record.specs.Layout.{headerBytes, recordBytes, blankRecord, entryBytes, freshEntry}
+use Rattle.image.specs.Image.{entryAt}
+use Rattle.image.specs.Cluster.{imageAt}
+use Rattle.protocol.specs.Call.{Numbers}
+use Rattle.example.specs.Undamaged.{payloadA, payloadC, noise}
+
+-- leader 1, all four present
+unfoldable pub four : Numbers
+four = record { n = 4; m = 1; leader = 1; present = 15 }
+
+unfoldable pub evenCluster : Bytes
+evenCluster =
+    (headerBytes 1 4 1 ++ (recordBytes 2 1 ++ entryBytes 1 1 payloadC))
+    ++ ((headerBytes 2 4 1 ++ (recordBytes 2 1 ++ noise))
+    ++ ((headerBytes 3 4 1 ++ (recordBytes 2 1 ++ entryBytes 2 1 payloadA)) ++ (headerBytes 4 4 1 ++ (blankRecord ++ freshEntry))))
+
+-- the power failed while the leader's entry was fetched
+unfoldable pub evenTorn : Bytes
+evenTorn = spliced evenCluster (imageAt 1 0 + entryAt 1 0) noise

@@ -1,0 +1,71 @@
+-- Every row of both tables is computed.
+use mathlib.Core.Path.{refl}
+use Rattle.search.specs.Search.{lowest, count, sum, oneIf, all, listed, joined}
+use Rattle.slices.specs.Parts.{part}
+use Rattle.slices.specs.Same.{same}
+use Rattle.checksum.specs.Checksum.{sumA, sumB, checksumOf}
+use Rattle.column.specs.Column.{digits, column, digitStep, valueFrom, valueOf}
+use Rattle.record.specs.Layout.{sealed, headerBytes, recordBytes, blankRecord, padded, entryBytes, freshEntry}
+use Rattle.record.specs.Meaning.{isEpoch, readHeader, isGood, recordEpoch, readRecord, isIntact, entryEpoch, entryPayload, readEntry}
+use Rattle.image.specs.Refusal.{refuse, _else_}
+use Rattle.image.specs.Image.{imageSize, recordAt, entryAt, decodeImage}
+use Rattle.image.specs.View.{condition, epochOf, conditionAt, epochAt, isBlank, isProper, isLost, logLength, noGap, noneLost, rising, imageRefusal, viewOf, isSize, isReplica, isSlots, callRefusal, readRefusal}
+use Rattle.image.specs.Verdict.{verdictOf, verdictAt, isFresh}
+use Rattle.image.specs.Append.{lastEpoch, appendRefusal}
+use Rattle.image.specs.Read.{isWhole}
+use Rattle.image.specs.Cluster.{imageAt, imagePart, decode}
+use Rattle.planner.specs.Setting.{settingOf, has, viewsOf}
+use Rattle.planner.specs.Rules.{majority, mayTruncate, isFaulty, isUsed, isTruncate, isWait, answers, agrees, have, dontHave, donor, rule, end, firstWaiting, answer}
+use Rattle.planner.specs.Plan.{viewsIn, shapeRefusal, clusterRefusal, lentRefusal, planRefusal, keptByte, ruleByte, planByte, planBytes}
+use Rattle.protocol.specs.Call.{refusalOf}
+use Rattle.protocol.specs.CallResult.{readyResult, acceptedResult, callResult}
+use Rattle.starred.specs.Cards as cards
+use Rattle.starred.specs.Starred.{Starred}
+use Rattle.starred.specs.Sizes as sizes
+use Rattle.starred.specs.Sizes.{Sizes}
+
+pub computed : Starred × Sizes
+unfolding lowest count sum oneIf all listed joined part same sumA sumB checksumOf digits column digitStep valueFrom valueOf sealed headerBytes recordBytes blankRecord padded entryBytes freshEntry isEpoch readHeader isGood recordEpoch readRecord isIntact entryEpoch entryPayload readEntry refuse _else_ imageSize recordAt entryAt decodeImage condition epochOf conditionAt epochAt isBlank isProper isLost logLength noGap noneLost rising imageRefusal viewOf isSize isReplica isSlots callRefusal readRefusal verdictOf verdictAt isFresh lastEpoch appendRefusal isWhole imageAt imagePart decode settingOf has viewsOf majority mayTruncate isFaulty isUsed isTruncate isWait answers agrees have dontHave donor rule end firstWaiting answer viewsIn shapeRefusal clusterRefusal lentRefusal planRefusal keptByte ruleByte planByte planBytes refusalOf readyResult acceptedResult callResult cards.noise cards.scratch cards.whole cards.one cards.two cards.faultyOf cards.hasOf cards.lacksOf sizes.cards sizes.planned sizes.answers sizes.bytes
+computed = (starred, by-size)
+  where
+    starred : Starred
+    starred = record {
+      no-bytes = refl;
+      byte-65 = refl;
+      line-1-1 = refl;
+      line-1-1-sum = refl;
+      same-epoch = refl;
+      lower-epoch = refl;
+      line-lost = refl;
+      line-lost-read = refl;
+      both-lost = refl;
+      gap = refl;
+      noise-last = refl;
+      noise-last-read = refl;
+      noise-before = refl;
+      noise-before-read = refl;
+      three-one = refl;
+      three-one-byte = refl;
+      two-two = refl;
+      two-two-byte = refl;
+      two-one-one = refl;
+      two-one-one-byte = refl;
+      three-intact = refl;
+      three-intact-byte = refl;
+    }
+
+    by-size : Sizes
+    by-size = record {
+      three = refl;
+      four = refl;
+      five = refl;
+      six = refl;
+      seven = refl;
+      three-bytes = refl;
+      four-bytes = refl;
+      five-bytes = refl;
+      six-bytes = refl;
+      seven-bytes = refl;
+      two = refl;
+      eight = refl;
+    }
