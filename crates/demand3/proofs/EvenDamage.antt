@@ -15,18 +15,12 @@ use Rattle.example.specs.Undamaged.{payloadA, imageWith, emptyImage, imageA, un
 use Rattle.example.specs.Four.{four, evenCluster}
 use Rattle.example.proofs.ComputedLaws.{computed}
 use Rattle.demand3.specs.Supposed.{History, held, committed}
-use Rattle.demand3.specs.Before.{FlightSlot, arrived, Before, spared, entryDamaged, headerSpared, Damage, payloadIn, historyOf, DamagedCluster}
-use Rattle.demand3.specs.Histories.{writtenTo, flightsFour}
-use Rattle.demand3.proofs.ExampleDamage.{stale, noisy, stored-A, one-slot, Alike, agreed, alike-A, alike-empty}
+use Rattle.demand3.specs.Before.{Before, spared, entryDamaged, headerSpared, Damage, payloadIn, historyOf, DamagedCluster}
+use Rattle.demand3.specs.Histories.{writtenTo, noFlights}
+use Rattle.demand3.proofs.ExampleDamage.{stale, noisy, stored-A, flying-A, one-slot, Alike, agreed, alike-A, alike-empty}
 
--- in flight or not, what arrived is what was written
-flying-A : (k : ℕ) → k < 1 → FlightSlot (writtenTo k) (imageA .records k) (imageA .entries k)
-unfolding imageA imageWith writtenTo
-flying-A zero h = arrived
-flying-A (suc k) h = absurd (omega arith)
-
-before-four : (c : ℕ) → c < 4 → Before 1 (flightsFour c) (undamagedFour c)
-unfolding flightsFour undamagedFour logLength lowest isBlank imageA emptyImage imageWith
+before-four : (c : ℕ) → c < 4 → Before 1 (noFlights c) (undamagedFour c)
+unfolding noFlights undamagedFour logLength lowest isBlank imageA emptyImage imageWith
 before-four zero h = record { stored = λ k l e. stored-A k l; flying = λ k l e. flying-A k l }
 before-four (suc zero) h = record { stored = λ k l e. stored-A k l; flying = λ k l e. flying-A k l }
 before-four (suc (suc zero)) h = record { stored = λ k l e. stored-A k l; flying = λ k l e. flying-A k l }
@@ -54,18 +48,18 @@ damage-four (suc (suc (suc zero))) h = record {
 damage-four (suc (suc (suc (suc c)))) h = absurd (omega arith)
 
 unfoldable historiesFour : ℕ → History
-historiesFour c = historyOf 1 (flightsFour c) (undamagedFour c)
+historiesFour c = historyOf 1 (noFlights c) (undamagedFour c)
 
 alike-four : (c : ℕ) → Alike 2 writtenTo (historiesFour c)
-unfolding historiesFour flightsFour undamagedFour
+unfolding historiesFour noFlights undamagedFour
 alike-four c = go (ltb c 3)
   where
-    go : (t : Bool) → Alike 2 writtenTo (historyOf 1 (flightsFour c) (cond t imageA emptyImage))
-    go true = alike-A (flightsFour c .inFlight)
-    go false = alike-empty 0 (flightsFour c)
+    go : (t : Bool) → Alike 2 writtenTo (historyOf 1 (noFlights c) (cond t imageA emptyImage))
+    go true = alike-A (noFlights c .inFlight)
+    go false = alike-empty 0 (noFlights c)
 
-pub damaged-four : DamagedCluster (named four) undamagedFour flightsFour (decode 4 1 evenCluster) 0 2 payloadA
-unfolding four settingOf majority historiesFour count sum oneIf committed held historyOf undamagedFour imageA emptyImage imageWith flightsFour epochAt epochOf logLength lowest isBlank payloadIn payloadA same
+pub damaged-four : DamagedCluster (named four) undamagedFour noFlights (decode 4 1 evenCluster) 0 2 payloadA
+unfolding four settingOf majority historiesFour count sum oneIf committed held historyOf undamagedFour imageA emptyImage imageWith noFlights epochAt epochOf logLength lowest isBlank payloadIn payloadA same
 damaged-four = record {
   before = before-four;
   damage = damage-four;

@@ -20,7 +20,7 @@ use Rattle.protocol.specs.Call.{named}
 use Rattle.example.specs.Undamaged.{payloadA, payloadB, payloadC, noise, imageWith, leaderImage, imageAB, emptyImage, gapImage, imageA, undamagedFive, undamagedThree}
 use Rattle.example.specs.Damaged.{five, damagedCluster}
 use Rattle.example.specs.Waiting.{three, waitingCluster}
-use Rattle.demand3.specs.Histories.{inFlightFive, writtenTo, flightsFive, historiesFive, flightsThree}
+use Rattle.demand3.specs.Histories.{inFlightFive, writtenTo, flightsFive, historiesFive, noFlights}
 use Rattle.demand3.proofs.BeforeLaws.{damaged-cluster}
 use Rattle.example.proofs.ComputedLaws.{computed}
 
@@ -83,9 +83,14 @@ unfolding imageA imageWith verdictAt verdictOf conditionAt condition
 stored-A zero l = refl
 stored-A (suc k) l = absurd (omega arith)
 
-before-three : (c : ℕ) → c < 3 → Before 1 (flightsThree c) (undamagedThree c)
-unfolding flightsThree undamagedThree logLength lowest isBlank imageA imageWith
-before-three c h = record { stored = λ k l e. stored-A k l; flying = λ k l e. absurd (true≢false (sym e)) }
+pub flying-A : (k : ℕ) → k < 1 → FlightSlot (writtenTo k) (imageA .records k) (imageA .entries k)
+unfolding imageA imageWith writtenTo
+flying-A zero h = arrived
+flying-A (suc k) h = absurd (omega arith)
+
+before-three : (c : ℕ) → c < 3 → Before 1 (noFlights c) (undamagedThree c)
+unfolding noFlights undamagedThree logLength lowest isBlank imageA imageWith
+before-three c h = record { stored = λ k l e. stored-A k l; flying = λ k l e. flying-A k l }
 
 -- ---- the damage
 
@@ -161,7 +166,7 @@ damage-three (suc (suc (suc c))) h = absurd (omega arith)
 -- ---- the logs agree
 
 unfoldable historiesThree : ℕ → History
-historiesThree c = historyOf 1 (flightsThree c) (undamagedThree c)
+historiesThree c = historyOf 1 (noFlights c) (undamagedThree c)
 
 -- every slot of every log has epoch e and the same payload as the others there
 pub record Alike (e : ℕ) (paid : ℕ → Bytes) (h : History) : Type 0 where
@@ -253,8 +258,8 @@ alike-five (suc (suc (suc (suc zero)))) h = alike-gap
 alike-five (suc (suc (suc (suc (suc c))))) h = absurd (omega arith)
 
 alike-three : (c : ℕ) → c < 3 → Alike 2 writtenTo (historiesThree c)
-unfolding undamagedThree flightsThree historiesThree
-alike-three c h = alike-A (λ k. false)
+unfolding undamagedThree noFlights historiesThree
+alike-three c h = alike-A (noFlights c .inFlight)
 
 -- ---- all of it
 
@@ -272,8 +277,8 @@ pub supposed-five : Supposed (named five) (decode 5 3 damagedCluster) historiesF
 unfolding five settingOf historiesFive
 supposed-five = damaged-cluster (named five) undamagedFive flightsFive (decode 5 3 damagedCluster) 0 2 payloadA damaged-five
 
-pub damaged-three : DamagedCluster (named three) undamagedThree flightsThree (decode 3 1 waitingCluster) 0 2 payloadA
-unfolding three settingOf majority historiesThree count sum oneIf committed held historyOf undamagedThree imageA imageWith flightsThree epochAt epochOf logLength lowest isBlank payloadIn payloadA same
+pub damaged-three : DamagedCluster (named three) undamagedThree noFlights (decode 3 1 waitingCluster) 0 2 payloadA
+unfolding three settingOf majority historiesThree count sum oneIf committed held historyOf undamagedThree imageA imageWith noFlights epochAt epochOf logLength lowest isBlank payloadIn payloadA same
 damaged-three = record {
   before = before-three;
   damage = damage-three;

@@ -25,9 +25,6 @@ flightsFive c = record { inFlight = inFlightFive c; payload = writtenTo }
 unfoldable pub historiesFive : ℕ → History
 historiesFive c = historyOf 3 (flightsFive c) (undamagedFive c)
 
--- nothing
-unfoldable pub flightsThree : ℕ → Flight
-flightsThree c = record { inFlight = λ k. false; payload = writtenTo }
-
-unfoldable pub flightsFour : ℕ → Flight
-flightsFour c = record { inFlight = λ k. false; payload = writtenTo }
+-- nothing, in the three and in the four
+unfoldable pub noFlights : ℕ → Flight
+noFlights c = record { inFlight = λ k. false; payload = writtenTo }

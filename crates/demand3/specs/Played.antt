@@ -17,7 +17,7 @@ use Rattle.example.specs.Damaged.{five, damagedCluster}
 use Rattle.example.specs.Waiting.{three, waitingCluster}
 use Rattle.example.specs.Four.{four, evenCluster, evenTorn}
 use Rattle.example.specs.Visited.{fetchedOne, lastStored, lastCluster}
-use Rattle.demand3.specs.Histories.{flightsFive, historiesFive, flightsThree, flightsFour}
+use Rattle.demand3.specs.Histories.{flightsFive, historiesFive, noFlights}
 
 -- a call with the numbers of the five
 abbrev pub asked : Call → Request
@@ -67,7 +67,7 @@ pub record Exhibit : Type 0 where
 -- three replicas: A was committed on all, and no copy is within reach; so it waits
 pub record WaitingExhibit : Type 0 where
   pub accepted : refusalIn three waitingCluster ≡ 0
-  pub damaged : DamagedCluster (named three) undamagedThree flightsThree (decode 3 1 waitingCluster) 0 2 payloadA
+  pub damaged : DamagedCluster (named three) undamagedThree noFlights (decode 3 1 waitingCluster) 0 2 payloadA
   pub faulty : isFaulty (viewsIn (named three) waitingCluster 0 .condition 0) ≡ true
   pub noCopy : (c : ℕ) → c < 3 → have (named three) (viewsIn (named three) waitingCluster) 0 c ≡ false
   pub played : CallList three (record { numbers = three; call = plan 1 3 } ∷ []) waitingCluster waitingCluster
@@ -77,7 +77,7 @@ pub record WaitingExhibit : Type 0 where
 -- the next one ends, and A stands on all
 pub record EvenExhibit : Type 0 where
   pub accepted : refusalIn four evenCluster ≡ 0
-  pub damaged : DamagedCluster (named four) undamagedFour flightsFour (decode 4 1 evenCluster) 0 2 payloadA
+  pub damaged : DamagedCluster (named four) undamagedFour noFlights (decode 4 1 evenCluster) 0 2 payloadA
   pub played : CallList four (record { numbers = four; call = run 12 } ∷ []) evenCluster evenTorn
   pub isReady : callResult four (planning four) evenCluster ≡ ready 1
   pub lastRun : callResult four (run 12) evenTorn ≡ recovered 4

@@ -7,7 +7,7 @@ use Rattle.image.specs.View.{Condition, conditionNumber, View}
 use Rattle.image.specs.Read.{isWhole}
 use Rattle.planner.specs.Setting.{Setting}
 
--- more than half of n, odd or even
+-- 01's majority, and of an even n 02's (One): more than half of n
 unfoldable pub majority : ℕ → ℕ
 majority n = n / 2 + 1
 

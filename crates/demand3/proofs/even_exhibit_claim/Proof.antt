@@ -1,6 +1,6 @@
 -- The premises of mending are computed; the rest follows from part B.
 use Prim.Native.Nat.{ℕ, zero, suc, _<_}
-use mathlib.Core.Path.{_≡_, refl}
+use mathlib.Core.Path.{_≡_}
 use mathlib.Core.Bool.{true}
 use mathlib.Core.List.{[], _∷_}
 use native.Mathlib.Omega.{arith}
@@ -16,7 +16,7 @@ use Rattle.example.proofs.ComputedLaws.{computed}
 use Rattle.demand3.specs.Interrupted.{torn, interrupted}
 use Rattle.demand3.specs.CallList.{CallList, finished, made}
 use Rattle.demand3.specs.Claim.{readable}
-use Rattle.demand3.specs.Histories.{flightsFour}
+use Rattle.demand3.specs.Histories.{noFlights}
 use Rattle.demand3.proofs.EvenDamage.{damaged-four}
 use Rattle.demand3.proofs.PartB.{part-b-whole}
 use Rattle.demand3.proofs.even_exhibit_claim.Statement.{statement}
@@ -41,7 +41,7 @@ readable-four (suc (suc (suc (suc c)))) h = absurd (omega arith)
 returns : tie.Need-returns
 unfolding four settingOf
 returns c =
-    let part = part-b-whole four _ undamagedFour flightsFour evenCluster evenTorn 0 2 payloadA damaged-four played in
+    let part = part-b-whole four _ undamagedFour noFlights evenCluster evenTorn 0 2 payloadA damaged-four played in
     record {
       accepted = computed .go-even;
       damaged = damaged-four;

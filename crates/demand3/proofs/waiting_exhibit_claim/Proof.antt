@@ -13,7 +13,7 @@ use Rattle.demand3.specs.Interrupted.{whole}
 use Rattle.demand3.specs.CallList.{CallList, finished, made}
 use Rattle.example.specs.Undamaged.{payloadA, undamagedThree}
 use Rattle.example.specs.Waiting.{three, waitingCluster}
-use Rattle.demand3.specs.Histories.{flightsThree}
+use Rattle.demand3.specs.Histories.{noFlights}
 use Rattle.example.proofs.ComputedLaws.{computed}
 use Rattle.demand3.proofs.ExampleDamage.{damaged-three}
 use Rattle.demand3.proofs.PartB.{part-b-whole}
@@ -33,7 +33,7 @@ played = made (plan 1 3) (computed .planned-waiting) whole finished
 returns : tie.Need-returns
 unfolding three settingOf
 returns c =
-    let part = part-b-whole three _ undamagedThree flightsThree waitingCluster waitingCluster 0 2 payloadA damaged-three played in
+    let part = part-b-whole three _ undamagedThree noFlights waitingCluster waitingCluster 0 2 payloadA damaged-three played in
     record {
       accepted = computed .go-waiting;
       damaged = damaged-three;
