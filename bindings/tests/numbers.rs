@@ -8,11 +8,12 @@ use ropelog::{MAX_REPLICAS, MIN_REPLICAS};
 
 #[test]
 fn geometries() {
+    assert_eq!((MIN_REPLICAS, MAX_REPLICAS), (3, 7));
     for n in 0..12 {
         for m in [0, 1, 2, 63, 64, 65, usize::MAX] {
             let expected = if !(1..=64).contains(&m) {
                 Err(Refusal::SlotCount)
-            } else if !(MIN_REPLICAS..=MAX_REPLICAS).contains(&n) {
+            } else if !(3..=7).contains(&n) {
                 Err(Refusal::ReplicaCount)
             } else {
                 Ok((n, m))
