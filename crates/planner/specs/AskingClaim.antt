@@ -12,7 +12,7 @@ use Rattle.image.specs.Verdict.{verdictAt}
 use Rattle.image.specs.Read.{isWhole}
 use Rattle.image.specs.Cluster.{imageAt, imagePart}
 use Rattle.planner.specs.Setting.{Setting, has, settingOf}
-use Rattle.planner.specs.Rules.{majority, isFaulty, isUsed, answers, have, haveFaulty, dontHave}
+use Rattle.planner.specs.Rules.{majority, mayTruncate, isFaulty, isUsed, answers, have, haveFaulty, dontHave}
 use Rattle.planner.specs.Plan.{viewsIn}
 
 pub record AskingClaim : Type 0 where
@@ -27,8 +27,10 @@ pub record AskingClaim : Type 0 where
   -- a replica that is asked gives exactly one of the three answers, and no other replica gives one
   pub one-answer : (S : Setting) (W : ℕ → View) (k c : ℕ) → isLost (W c .condition k) ≡ false
       → oneIf (have S W k c) + oneIf (haveFaulty S W k c) + oneIf (dontHave S W k c) ≡ oneIf (answers S W c)
-  -- a majority is (n + 1) / 2 of an odd n; of four it is three and of six four; d of n are one exactly if they are more than half
+  -- a majority is (n + 1) / 2 of an odd n; of four it is three and of six four (02, One)
   pub majority-odd : (k : ℕ) → majority (k + k + 1) ≡ (k + k + 1 + 1) / 2
   pub majority-four : majority 4 ≡ 3
   pub majority-six : majority 6 ≡ 4
+  -- d of n are a majority exactly if they are more than half; and exactly then so many don't-haves cut
   pub majority-is : (n d : ℕ) → leb (majority n) d ≡ ltb n (d + d)
+  pub cuts : (n d : ℕ) → mayTruncate n d ≡ ltb n (d + d)

@@ -20,6 +20,7 @@ returns z = record {
   majority-four = unfold majority in omega arith;
   majority-six = unfold majority in omega arith;
   majority-is = many.majority-is;
+  cuts = many.cuts;
 }
 
 pub asking-claim-spec : {M : Type 1} → statement M
