@@ -21,11 +21,11 @@ use Rattle.demand3.proofs.ExampleDamage.{stale, noisy, stored-A, flying
 
 before-four : (c : ℕ) → c < 4 → Before 1 (noFlights c) (undamagedFour c)
 unfolding noFlights undamagedFour logLength lowest isBlank imageA emptyImage imageWith
-before-four zero h = record { stored = λ k l e. stored-A k l; flying = λ k l e. flying-A k l }
-before-four (suc zero) h = record { stored = λ k l e. stored-A k l; flying = λ k l e. flying-A k l }
-before-four (suc (suc zero)) h = record { stored = λ k l e. stored-A k l; flying = λ k l e. flying-A k l }
-before-four (suc (suc (suc zero))) h = record { stored = λ k l e. absurd (omega arith); flying = λ k l e. absurd (omega arith) }
-before-four (suc (suc (suc (suc c)))) h = absurd (omega arith)
+before-four c h = go (ltb c 3)
+  where
+    go : (t : Bool) → Before 1 (noFlights c) (cond t imageA emptyImage)
+    go true = record { stored = λ k l e. stored-A k l; flying = λ k l e. flying-A k l }
+    go false = record { stored = λ k l e. absurd (omega arith); flying = λ k l e. absurd (omega arith) }
 
 damage-four : (c : ℕ) → c < 4 → Damage 1 (undamagedFour c) (decode 4 1 evenCluster c)
 unfolding undamagedFour imageA emptyImage imageWith four

@@ -168,10 +168,10 @@ damage-three (suc (suc (suc c))) h = absurd (omega arith)
 unfoldable historiesThree : ℕ → History
 historiesThree c = historyOf 1 (noFlights c) (undamagedThree c)
 
--- every slot of every log has epoch e and the same payload as the others there
+-- every slot of a log has epoch e and the payload that was written there
 pub record Alike (e : ℕ) (paid : ℕ → Bytes) (h : History) : Type 0 where
   pub epochs : (k : ℕ) → k < h .length → h .epoch k ≡ e
-  pub payloads : (k : ℕ) → k < h .length → h .payload k ≡ writtenTo k
+  pub payloads : (k : ℕ) → k < h .length → h .payload k ≡ paid k
 
 pub agreed : (n e : ℕ) (paid : ℕ → Bytes) (H : ℕ → History) → ((c : ℕ) → c < n → Alike e paid (H c)) → Agree n H
 unfolding Agree

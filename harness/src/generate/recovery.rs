@@ -1,7 +1,7 @@
 //! Clusters to be recovered: mostly small ones, so that many are, and some of every size.
 
 use super::arbitrary::arbitrary_case_of;
-use super::history::agreed_case_of;
+use super::history::{agreed_case_of, some_replica_count};
 use super::noise::noise_cluster_of;
 use super::rng::Rng;
 use super::Case;
@@ -35,9 +35,6 @@ fn some_shape(rng: &mut Rng) -> (usize, usize) {
             rng.between(13, MAX_SLOTS),
         ),
         34..=2000 => (rng.between(MIN_REPLICAS, MAX_REPLICAS), rng.between(4, 12)),
-        _ => (
-            *rng.pick(&[3, 3, 3, 3, 4, 4, 5, 6, 7]),
-            *rng.pick(&[1, 1, 1, 2, 2, 3]),
-        ),
+        _ => (some_replica_count(rng), *rng.pick(&[1, 1, 1, 2, 2, 3])),
     }
 }
