@@ -48,10 +48,10 @@ typedef char rope_needs_64_bit_sizes[sizeof(size_t) == 8 ? 1 : -1];
 /* ---- Version ------------------------------------------------------------------------------------------------------------------ */
 
 /* CHANGELOG.md says what a version promises. */
-#define ROPE_VERSION_MAJOR 2
-#define ROPE_VERSION_MINOR 1
+#define ROPE_VERSION_MAJOR 3
+#define ROPE_VERSION_MINOR 0
 #define ROPE_VERSION_PATCH 0
-#define ROPE_VERSION "2.1.0"
+#define ROPE_VERSION "3.0.0"
 
 /* ---- Sizes, in bytes ---------------------------------------------------------------------------------------------------------- */
 
@@ -118,7 +118,7 @@ enum rope_plan_byte {
     ROPE_PLAN_WHOLE = 1,           /* nothing is to be done */
     ROPE_PLAN_REWRITE_RECORD = 2,  /* the record is lost, and is written again from the entry */
     ROPE_PLAN_WAIT = 3,            /* faulty, and the replicas that answer cannot decide */
-    ROPE_PLAN_TRUNCATE = 4,        /* the lowest slot that is cut: a majority of n does not have it */
+    ROPE_PLAN_TRUNCATE = 4,        /* the lowest slot that is cut: no majority of n can have held it */
     ROPE_PLAN_TRUNCATED_AFTER = 5, /* a used slot behind that one: it goes with it */
     ROPE_PLAN_FETCH = 10           /* plus the number of the replica: 11 to 17 */
 };

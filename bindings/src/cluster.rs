@@ -19,7 +19,7 @@ pub enum PlanAction {
     RewriteRecord,
     /// 3: the slot is faulty, and the replicas that answer cannot decide.
     Wait,
-    /// 4: the lowest slot that is cut, since a majority of all replicas does not have it.
+    /// 4: the lowest slot that is cut, since no majority of all replicas can have held it.
     Truncate,
     /// 5: a used slot behind that one, which goes with it.
     TruncatedAfter,

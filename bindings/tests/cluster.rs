@@ -73,7 +73,7 @@ fn assert_refused(
 /// The leader alone has slot 1, and its entry is spoilt: so many don't-haves of n cut it, fewer wait.
 #[test]
 fn dont_haves_of_every_n() {
-    for (n, needed) in [(3, 2), (4, 3), (5, 3), (6, 4), (7, 4)] {
+    for (n, needed) in [(3, 2), (4, 2), (5, 3), (6, 3), (7, 4)] {
         let mut cluster = Cluster::fresh(n, 1);
         cluster.append(&[1], 1, b"one");
         cluster.spoil_entry(1, 1);

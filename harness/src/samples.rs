@@ -123,8 +123,8 @@ fn waiting() -> Sample {
     sample("waiting", cluster, &[1, 2, 3])
 }
 
-/// Two of four replicas never had the leader's third reading, which is spoilt. They are no majority,
-/// and the fourth is away.
+/// Two of four replicas never had the leader's third reading, which is spoilt. The fourth is away; it
+/// and the leader, which alone can have held it, are no majority.
 fn four_replicas() -> Sample {
     let mut cluster = agreeing(4);
     spoil_entry(&mut cluster, 1, 3);
@@ -134,7 +134,7 @@ fn four_replicas() -> Sample {
     sample("four-replicas", cluster, &[1, 2, 3])
 }
 
-/// Four of six replicas never had it, and they are a majority. The sixth is away.
+/// Four of six replicas never had it. The sixth is away.
 fn six_replicas() -> Sample {
     let mut cluster = agreeing(6);
     spoil_entry(&mut cluster, 1, 3);

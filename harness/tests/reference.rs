@@ -26,7 +26,13 @@ on_both_sides! {
     two_dont_have_two_away_waits,
     two_dont_have_one_faulty_one_away_waits,
     three_dont_have_one_intact_fetches,
+    two_dont_have_one_away_of_four_truncates,
+    one_dont_have_two_away_of_four_waits,
+    three_dont_have_two_away_of_six_truncates,
+    two_dont_have_three_away_of_six_waits,
+    two_dont_have_one_intact_of_four_fetches,
     dont_haves_that_cut_of_each_n,
+    every_set_of_replies,
     budget_0_is_done_if_no_store_is_outstanding,
     budget_0_is_spent_if_a_store_is_outstanding,
     budget_0_waits_if_the_plan_waits,
@@ -254,9 +260,38 @@ fn three_dont_have_one_intact_fetches(on: Code) {
     );
 }
 
+fn two_dont_have_one_away_of_four_truncates(on: Code) {
+    assert_eq!(replicas(on, &[NO, NO, None]), (Answer::Ready(0), 4));
+    assert_eq!(replicas(on, &[None, NO, NO]), (Answer::Ready(0), 4));
+    // A faulty copy is one that may have been there, like one that is away.
+    assert_eq!(replicas(on, &[NO, FAULTY, NO]), (Answer::Ready(0), 4));
+}
+
+fn one_dont_have_two_away_of_four_waits(on: Code) {
+    assert_eq!(replicas(on, &[NO, None, None]), (Answer::Waiting(1), 3));
+    assert_eq!(replicas(on, &[None, FAULTY, NO]), (Answer::Waiting(1), 3));
+}
+
+fn three_dont_have_two_away_of_six_truncates(on: Code) {
+    let replies = [NO, NO, NO, None, None];
+    assert_eq!(replicas(on, &replies), (Answer::Ready(0), 4));
+    let replies = [None, NO, FAULTY, NO, NO];
+    assert_eq!(replicas(on, &replies), (Answer::Ready(0), 4));
+}
+
+fn two_dont_have_three_away_of_six_waits(on: Code) {
+    let replies = [NO, NO, None, None, None];
+    assert_eq!(replicas(on, &replies), (Answer::Waiting(1), 3));
+}
+
+fn two_dont_have_one_intact_of_four_fetches(on: Code) {
+    assert_eq!(replicas(on, &[NO, NO, YES]), (Answer::Ready(1), 14));
+    assert_eq!(replicas(on, &[YES, NO, NO]), (Answer::Ready(1), 12));
+}
+
 /// For each n: so many don't-haves cut, and fewer wait, the others being away.
 fn dont_haves_that_cut_of_each_n(on: Code) {
-    for (n, needed) in [(3, 2), (4, 3), (5, 3), (6, 4), (7, 4)] {
+    for (n, needed) in [(3, 2), (4, 2), (5, 3), (6, 3), (7, 4)] {
         for dont_have in 0..n {
             let mut replies = vec![None; n - 1];
             replies[..dont_have].fill(NO);
@@ -275,6 +310,35 @@ fn dont_haves_that_cut_of_each_n(on: Code) {
             );
         }
     }
+}
+
+/// All replies that the others of n may give. The plan is that of document 01, which truncates if a
+/// majority has not the slot, but where exactly half have not: there it waited, and truncates now.
+fn every_set_of_replies(on: Code) {
+    let (mut as_before, mut earlier) = (0, 0);
+    for n in 3..=7 {
+        for choice in 0..4usize.pow(n as u32 - 1) {
+            let of = |at: usize| [NO, FAULTY, YES, None][choice / 4usize.pow(at as u32) % 4];
+            let replies: Vec<_> = (0..n - 1).map(of).collect();
+            let dont_have = replies.iter().filter(|&&reply| reply == NO).count();
+            let has = replies.iter().position(|&reply| reply == YES);
+            let expected = match has {
+                Some(at) => (Answer::Ready(1), 12 + at as u8),
+                None if dont_have > n / 2 => (Answer::Ready(0), 4),
+                None if 2 * dont_have == n => (Answer::Ready(0), 4),
+                None => (Answer::Waiting(1), 3),
+            };
+            assert_eq!(replicas(on, &replies), expected, "{replies:?}");
+            let is_earlier = has.is_none() && 2 * dont_have == n;
+            *if is_earlier {
+                &mut earlier
+            } else {
+                &mut as_before
+            } += 1;
+        }
+    }
+    // Of 3 others 2, of 5 others 3: the rest faulty or away.
+    assert_eq!((as_before, earlier), (5456 - 46, 3 * 2 + 10 * 4));
 }
 
 /// How a run of this budget ends that makes no store.
@@ -458,6 +522,15 @@ mod ruled_out {
         assert_eq!(planned(on, &cluster, 1, 1).0, Ok(Answer::Waiting(1)));
         assert_eq!(planned(on, &cluster, 1, 3).0, Ok(Answer::Waiting(1)));
         assert_eq!(planned(on, &cluster, 1, 7).0, Ok(Answer::Ready(0)));
+        // Of four, one that is away or unreadable does not make up the second don't-have.
+        let mut cluster = Cluster::fresh(4, 1);
+        cluster.put(1, 1, 1, b"x");
+        spoil(&mut cluster, 1, 1);
+        assert_eq!(planned(on, &cluster, 1, 7).0, Ok(Answer::Ready(0)));
+        assert_eq!(planned(on, &cluster, 1, 3).0, Ok(Answer::Waiting(1)));
+        cluster.header_mut(3)[0] = b'#';
+        assert_eq!(planned(on, &cluster, 1, 7).0, Ok(Answer::Waiting(1)));
+        assert_eq!(planned(on, &cluster, 1, 15).0, Ok(Answer::Ready(0)));
     }
 
     fn matching_by_index_without_epoch(on: Code) {

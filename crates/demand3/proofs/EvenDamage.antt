@@ -19,13 +19,16 @@ use Rattle.demand3.specs.Before.{Before, spared, entryDamaged, headerSpa
 use Rattle.demand3.specs.Histories.{writtenTo, noFlights}
 use Rattle.demand3.proofs.ExampleDamage.{stale, noisy, stored-A, flying-A, one-slot, Alike, agreed, alike-A, alike-empty}
 
-before-four : (c : ℕ) → c < 4 → Before 1 (noFlights c) (undamagedFour c)
-unfolding noFlights undamagedFour logLength lowest isBlank imageA emptyImage imageWith
-before-four c h = go (ltb c 3)
-  where
-    go : (t : Bool) → Before 1 (noFlights c) (cond t imageA emptyImage)
-    go true = record { stored = λ k l e. stored-A k l; flying = λ k l e. flying-A k l }
-    go false = record { stored = λ k l e. absurd (omega arith); flying = λ k l e. absurd (omega arith) }
+-- a replica has A, or nothing
+pub before-either : (c : ℕ) (t : Bool) → Before 1 (noFlights c) (cond t imageA emptyImage)
+unfolding noFlights logLength lowest isBlank imageA emptyImage imageWith
+before-either c true = record { stored = λ k l e. stored-A k l; flying = λ k l e. flying-A k l }
+before-either c false = record { stored = λ k l e. absurd (omega arith); flying = λ k l e. absurd (omega arith) }
+
+pub alike-either : (c : ℕ) (t : Bool) → Alike 2 writtenTo (historyOf 1 (noFlights c) (cond t imageA emptyImage))
+unfolding noFlights
+alike-either c true = alike-A (noFlights c .inFlight)
+alike-either c false = alike-empty 0 (noFlights c)
 
 damage-four : (c : ℕ) → c < 4 → Damage 1 (undamagedFour c) (decode 4 1 evenCluster c)
 unfolding undamagedFour imageA emptyImage imageWith four
@@ -50,20 +53,12 @@ damage-four (suc (suc (suc (suc c)))) h = absurd (omega arith)
 unfoldable historiesFour : ℕ → History
 historiesFour c = historyOf 1 (noFlights c) (undamagedFour c)
 
-alike-four : (c : ℕ) → Alike 2 writtenTo (historiesFour c)
-unfolding historiesFour noFlights undamagedFour
-alike-four c = go (ltb c 3)
-  where
-    go : (t : Bool) → Alike 2 writtenTo (historyOf 1 (noFlights c) (cond t imageA emptyImage))
-    go true = alike-A (noFlights c .inFlight)
-    go false = alike-empty 0 (noFlights c)
-
 pub damaged-four : DamagedCluster (named four) undamagedFour noFlights (decode 4 1 evenCluster) 0 2 payloadA
 unfolding four settingOf majority historiesFour count sum oneIf committed held historyOf undamagedFour imageA emptyImage imageWith noFlights epochAt epochOf logLength lowest isBlank payloadIn payloadA same
 damaged-four = record {
-  before = before-four;
+  before = λ c h. before-either c (ltb c 3);
   damage = damage-four;
-  agree = agreed 4 2 writtenTo historiesFour (λ c h. alike-four c);
+  agree = agreed 4 2 writtenTo historiesFour (λ c h. alike-either c (ltb c 3));
   onMajority = omega arith;
   leaderHeld = refl;
 }

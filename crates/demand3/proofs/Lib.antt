@@ -14,3 +14,4 @@ pub mod LeftLaws
 pub mod ExampleCalls
 pub mod ExampleDamage
 pub mod EvenDamage
+pub mod EarliestLaws

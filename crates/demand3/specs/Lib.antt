@@ -7,3 +7,4 @@ pub mod Claim
 pub mod Demand3
 pub mod Histories
 pub mod Played
+pub mod Earliest

@@ -1,5 +1,6 @@
 // Demand 3: every list of plans, steps and runs with power failures anywhere.
 ghost use Rattle.demand3.specs.Demand3.{Demand3};
+ghost use Rattle.demand3.specs.Earliest.{Earliest};
 ghost use Rattle.demand3.specs.Played.{Exhibit, WaitingExhibit, EvenExhibit};
 
 // The claim. The function does nothing; its contract is the theorem.
@@ -20,4 +21,9 @@ pub fn waiting_exhibit_claim()
 // It speaks of an even number of replicas: of four, three of which are a majority.
 pub fn even_exhibit_claim()
     ensures { λ _. ⌜ EvenExhibit ⌝ }
+{}
+
+// And it allows no earlier truncation: with one don't-have fewer a payload on a majority would be truncated.
+pub fn earliest_claim()
+    ensures { λ _. ⌜ Earliest ⌝ }
 {}

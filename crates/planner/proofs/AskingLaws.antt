@@ -27,6 +27,11 @@ own-refusal n m leader present b c sized slots size h =
     = sym (call-none (suc c) n m (length (imagePart m b c)) slots sized (is-replica n (suc c) (omega arith) (omega arith)) (omega (arith, l, size-is m))) in
     ap (λ (r : ℕ). has present c && eqb r 0) (sym (else-next _ z))
 
+-- the leader, and who is away or unreadable, answers nothing
+pub unasked : (S : Setting) (W : ℕ → View) (k c : ℕ) → answers S W c ≡ false → dontHave S W k c ≡ false
+unfolding dontHave
+unasked S W k c h = rw h refl
+
 pub one-answer : (S : Setting) (W : ℕ → View) (k c : ℕ) → isLost (W c .condition k) ≡ false
     → oneIf (have S W k c) + oneIf (haveFaulty S W k c) + oneIf (dontHave S W k c) ≡ oneIf (answers S W c)
 unfolding have haveFaulty dontHave agrees isWhole isFaulty isUsed isLost oneIf

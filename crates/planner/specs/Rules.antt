@@ -1,7 +1,7 @@
 -- Document 01, "Asking the fleet": answers, rules and the end of the log, as functions of the views W of the replicas.
-use Prim.Native.Nat.{ℕ, _+_, _/_}
+use Prim.Native.Nat.{ℕ, _+_, _-_, _/_}
 use mathlib.Core.Bool.{Bool, true, false, cond, not, _&&_}
-use lib.Dec.{eqb, leb, ltb}
+use lib.Dec.{eqb, ltb}
 use Rattle.search.specs.Search.{lowest, count}
 use Rattle.image.specs.View.{Condition, conditionNumber, View}
 use Rattle.image.specs.Read.{isWhole}
@@ -11,9 +11,10 @@ use Rattle.planner.specs.Setting.{Setting}
 unfoldable pub majority : ℕ → ℕ
 majority n = n / 2 + 1
 
--- so many don't-haves allow a truncation (01's cut)
+-- d don't-haves of n allow a truncation (01's cut, as 02 has it, Eight): those that did not answer don't-have, the leader and those away
+-- included, are fewer than a majority
 unfoldable pub mayTruncate : ℕ → ℕ → Bool
-mayTruncate n d = leb (majority n) d
+mayTruncate n d = ltb (n - d) (majority n)
 
 -- 01's faulty: verdicts 3 and 4
 unfoldable pub isFaulty : Condition → Bool
@@ -71,7 +72,7 @@ module _ (S : Setting) (W : ℕ → View) where
   unfoldable pub donor : ℕ → ℕ
   donor k = lowest (have k) n
 
-  -- the rules, in their order: fetch, truncate if a majority of n answered don't-have, wait
+  -- the rules, in their order: fetch, truncate if the don't-haves allow it, wait
   unfoldable pub rule : ℕ → Rule
   rule k =
       cond (isFaulty (W leader .condition k))

@@ -5,7 +5,7 @@ use Prim.Native.Nat.{ℕ, zero, suc, _+_, _-_, _≤_, _<_}
 use native.Mathlib.Omega.{arith}
 use native.Mathlib.Decide.{decLt}
 use lib.Dec.{eqb, ltb}
-use borrow.Author.Tests.{eq-eqb, lt-ltb, leb-true, not-true}
+use borrow.Author.Tests.{eq-eqb, lt-ltb, not-true}
 use Rattle.search.specs.Search.{count}
 use Rattle.search.proofs.SearchLaws.{lowest-passes}
 use Rattle.search.proofs.CountLaws.{count-disjoint}
@@ -17,15 +17,10 @@ use Rattle.image.specs.View.{View, Whole, Faulty, condition, conditionAt, isBla
 use Rattle.image.proofs.ViewLaws.{used-below}
 use Rattle.planner.specs.Setting.{Setting, viewsOf}
 use Rattle.planner.specs.Rules.{majority, mayTruncate, isUsed, isFaulty, answers, agrees, dontHave, donor, Keep, Fetch, Wait, isTruncate, rule, end}
-use Rattle.planner.proofs.MajorityLaws.{majorities-meet}
+use Rattle.planner.proofs.MajorityLaws.{truncate-needs}
 use Rattle.protocol.specs.Recovery.{differs, firstDiffering}
 use Rattle.protocol.proofs.Slots.{answers-readable}
 use Rattle.protocol.proofs.Consistency.{Consistent}
-
--- all that is asked of the rule for a truncation: don't-haves and a majority are together more than n
-truncate-needs : (n d : ℕ) → mayTruncate n d ≡ true → n < majority n + d
-unfolding mayTruncate
-truncate-needs n d e = omega (arith, leb-true (majority n) d e, majorities-meet n)
 
 -- slot k of a replica is used under epoch e
 pub record Holding (k e : ℕ) (a : View) : Type 0 where

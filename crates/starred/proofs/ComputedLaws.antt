@@ -1,4 +1,4 @@
--- Every row of both tables is computed.
+-- Every row of both tables is computed, and what the cards of the second mean.
 use mathlib.Core.Path.{refl}
 use Rattle.search.specs.Search.{lowest, count, sum, oneIf, all, listed, joined}
 use Rattle.slices.specs.Parts.{part}
@@ -23,10 +23,11 @@ use Rattle.starred.specs.Cards as cards
 use Rattle.starred.specs.Starred.{Starred}
 use Rattle.starred.specs.Sizes as sizes
 use Rattle.starred.specs.Sizes.{Sizes}
+use Rattle.starred.proofs.SeenLaws.{over, recordOf, entryOf, Seen}
 
-pub computed : Starred × Sizes
-unfolding lowest count sum oneIf all listed joined part same sumA sumB checksumOf digits column digitStep valueFrom valueOf sealed headerBytes recordBytes blankRecord padded entryBytes freshEntry isEpoch readHeader isGood recordEpoch readRecord isIntact entryEpoch entryPayload readEntry refuse _else_ imageSize recordAt entryAt decodeImage condition epochOf conditionAt epochAt isBlank isProper isLost logLength noGap noneLost rising imageRefusal viewOf isSize isReplica isSlots callRefusal readRefusal verdictOf verdictAt isFresh lastEpoch appendRefusal isWhole imageAt imagePart decode settingOf has viewsOf majority mayTruncate isFaulty isUsed isTruncate isWait answers agrees have dontHave donor rule end firstWaiting answer viewsIn shapeRefusal clusterRefusal lentRefusal planRefusal keptByte ruleByte planByte planBytes refusalOf readyResult acceptedResult callResult cards.noise cards.scratch cards.whole cards.one cards.two cards.faultyOf cards.hasOf cards.lacksOf sizes.cards sizes.planned sizes.answers sizes.bytes
-computed = (starred, by-size)
+pub computed : Starred × Sizes × Seen
+unfolding lowest count sum oneIf all listed joined part same sumA sumB checksumOf digits column digitStep valueFrom valueOf sealed headerBytes recordBytes blankRecord padded entryBytes freshEntry isEpoch readHeader isGood recordEpoch readRecord isIntact entryEpoch entryPayload readEntry refuse _else_ imageSize recordAt entryAt decodeImage condition epochOf conditionAt epochAt isBlank isProper isLost logLength noGap noneLost rising imageRefusal viewOf isSize isReplica isSlots callRefusal readRefusal verdictOf verdictAt isFresh lastEpoch appendRefusal isWhole imageAt imagePart decode settingOf has viewsOf majority mayTruncate isFaulty isUsed isTruncate isWait answers agrees have dontHave donor rule end firstWaiting answer viewsIn shapeRefusal clusterRefusal lentRefusal planRefusal keptByte ruleByte planByte planBytes refusalOf readyResult acceptedResult callResult cards.noise cards.scratch cards.whole cards.one cards.two cards.faultyOf cards.hasOf cards.lacksOf sizes.cards sizes.planned sizes.answers sizes.bytes over recordOf entryOf
+computed = (starred, by-size, seen)
   where
     starred : Starred
     starred = record {
@@ -66,6 +67,21 @@ computed = (starred, by-size)
       five-bytes = refl;
       six-bytes = refl;
       seven-bytes = refl;
+      four-intact = refl;
+      four-intact-byte = refl;
       two = refl;
       eight = refl;
+    }
+
+    seen : Seen
+    seen = record {
+      headers = refl;
+      records = refl;
+      entries = refl;
+      accepted = refl;
+      faulty = refl;
+      donors = refl;
+      lacking = refl;
+      holders = refl;
+      waits = refl;
     }

@@ -24,12 +24,12 @@ one r x = headerBytes 1 3 1 ++ (r ++ x)
 unfoldable pub two : Bytes → Bytes → Bytes → Bytes → Bytes
 two r s x y = headerBytes 1 3 2 ++ (r ++ (s ++ (x ++ y)))
 
--- the image of replica c of n, with one slot: its entry is noise; it has it; it does not
+-- the image of replica c of n, with one slot, under epoch 2: its entry is noise; it has it; it does not
 unfoldable pub faultyOf : ℕ → ℕ → Bytes
-faultyOf n c = headerBytes c n 1 ++ (recordBytes 1 1 ++ noise)
+faultyOf n c = headerBytes c n 1 ++ (recordBytes 2 1 ++ noise)
 
 unfoldable pub hasOf : ℕ → ℕ → Bytes
-hasOf n c = headerBytes c n 1 ++ (recordBytes 1 1 ++ whole 1 1)
+hasOf n c = headerBytes c n 1 ++ (recordBytes 2 1 ++ whole 2 1)
 
 unfoldable pub lacksOf : ℕ → ℕ → Bytes
 lacksOf n c = headerBytes c n 1 ++ (blankRecord ++ freshEntry)

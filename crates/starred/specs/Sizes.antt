@@ -1,5 +1,5 @@
--- Document 02, request One: for each n, how many don't-haves cut and how many wait. The leader's slot is faulty, the next d replicas answer
--- don't-have, and the others, which have it, are away.
+-- Document 02, requests One and Eight: for each n, how many don't-haves cut and how many wait. The leader's slot is faulty, the next d
+-- replicas answer don't-have, and the others, which have it, are away.
 use Prim.Native.Nat.{ℕ, suc, _+_, _^_, _-_}
 use mathlib.Core.Path.{_≡_}
 use mathlib.Core.Bool.{cond}
@@ -30,18 +30,21 @@ unfoldable pub bytes : ℕ → Bytes
 bytes n = listed n (λ d. planByte (named (asked n d)) (viewsIn (named (asked n d)) (cards n d)) 0)
 
 pub record Sizes : Type 0 where
-  -- two of three, three of four, three of five, four of six and four of seven cut; fewer wait
+  -- two of three, two of four, three of five, three of six and four of seven cut; fewer wait
   pub three : answers 3 ≡ waiting 1 ∷ waiting 1 ∷ ready 0 ∷ []
-  pub four : answers 4 ≡ waiting 1 ∷ waiting 1 ∷ waiting 1 ∷ ready 0 ∷ []
+  pub four : answers 4 ≡ waiting 1 ∷ waiting 1 ∷ ready 0 ∷ ready 0 ∷ []
   pub five : answers 5 ≡ waiting 1 ∷ waiting 1 ∷ waiting 1 ∷ ready 0 ∷ ready 0 ∷ []
-  pub six : answers 6 ≡ waiting 1 ∷ waiting 1 ∷ waiting 1 ∷ waiting 1 ∷ ready 0 ∷ ready 0 ∷ []
+  pub six : answers 6 ≡ waiting 1 ∷ waiting 1 ∷ waiting 1 ∷ ready 0 ∷ ready 0 ∷ ready 0 ∷ []
   pub seven : answers 7 ≡ waiting 1 ∷ waiting 1 ∷ waiting 1 ∷ waiting 1 ∷ ready 0 ∷ ready 0 ∷ ready 0 ∷ []
   -- the plan's byte: 3 wait, 4 cut
   pub three-bytes : bytes 3 ≡ 3 ∷ 3 ∷ 4 ∷ []
-  pub four-bytes : bytes 4 ≡ 3 ∷ 3 ∷ 3 ∷ 4 ∷ []
+  pub four-bytes : bytes 4 ≡ 3 ∷ 3 ∷ 4 ∷ 4 ∷ []
   pub five-bytes : bytes 5 ≡ 3 ∷ 3 ∷ 3 ∷ 4 ∷ 4 ∷ []
-  pub six-bytes : bytes 6 ≡ 3 ∷ 3 ∷ 3 ∷ 3 ∷ 4 ∷ 4 ∷ []
+  pub six-bytes : bytes 6 ≡ 3 ∷ 3 ∷ 3 ∷ 4 ∷ 4 ∷ 4 ∷ []
   pub seven-bytes : bytes 7 ≡ 3 ∷ 3 ∷ 3 ∷ 3 ∷ 4 ∷ 4 ∷ 4 ∷ []
+  -- of four, two don't-haves, and the one that has it is present too: it is fetched from that one
+  pub four-intact : callResult (asked 4 3) (plan 1 4) (cards 4 2) ≡ ready 1
+  pub four-intact-byte : planByte (named (asked 4 3)) (viewsIn (named (asked 4 3)) (cards 4 2)) 0 ≡ 14
   -- two and eight replicas are no cluster
   pub two : planned 2 1 ≡ refused 2
   pub eight : planned 8 7 ≡ refused 2

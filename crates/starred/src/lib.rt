@@ -1,4 +1,4 @@
-// Document 01's starred reference places: one table, one claim, computed from the definitions. Request One's for each n: another.
+// Document 01's starred reference places: one table, one claim, computed from the definitions. For each n, how many don't-haves cut: another.
 ghost use Rattle.starred.specs.Sizes.{Sizes};
 ghost use Rattle.starred.specs.Starred.{Starred};
 

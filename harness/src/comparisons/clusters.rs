@@ -5,6 +5,8 @@ use crate::call::Call;
 use crate::compare::{agree, Outcome};
 use crate::generate::{agreed_case, arbitrary_case, noise_cluster, plan_call, recovery_case};
 use crate::generate::{Case, Rng};
+use crate::model::planner::{reply, Reply};
+use crate::model::survey;
 use crate::tally::{each_case, Tally};
 
 /// Plans by both, and counts how it went.
@@ -12,7 +14,10 @@ pub fn compare_plan(rng: &mut Rng, call: &Call, tally: &mut Tally) {
     let outcome = agree(rng, call);
     tally.count("refusal", outcome.answer.code());
     match outcome.answer.code() {
-        0 => count_plan(&outcome, tally),
+        0 => {
+            count_plan(&outcome, tally);
+            count_dont_haves(call, &outcome, tally);
+        }
         13 => count_lengths(call, tally),
         _ => {}
     }
@@ -34,6 +39,29 @@ fn count_plan(outcome: &Outcome, tally: &mut Tally) {
     for row in outcome.rows("rows") {
         let epoch = usize::from(row.last_epoch > 0);
         tally.count("row", usize::from(row.readable) + epoch);
+    }
+}
+
+/// For each n whether exactly half of it are the don't-haves that cut a slot.
+fn count_dont_haves(call: &Call, outcome: &Outcome, tally: &mut Tally) {
+    let Call::Plan {
+        n,
+        m,
+        leader,
+        present,
+        cluster,
+        ..
+    } = call
+    else {
+        panic!("{call} is no plan");
+    };
+    let Some(at) = outcome.bytes("plan").iter().position(|&byte| byte == 4) else {
+        return;
+    };
+    let survey = survey(cluster, *n, *m, *leader, *present).expect("it was planned");
+    let lacks = |&replica: &usize| reply(&survey, replica, at + 1) == Some(Reply::DontHave);
+    if 2 * (1..=*n).filter(lacks).count() == *n {
+        tally.count("cut by half of n", *n);
     }
 }
 
@@ -77,6 +105,7 @@ pub fn plans(seed: u64, clusters: u64) -> Tally {
     tally.assert_each("plan byte", &bytes, some);
     tally.assert_each("waits of n", &[3, 4, 5, 6, 7], some);
     tally.assert_each("cut of n", &[3, 4, 5, 6, 7], some);
+    tally.assert_each("cut by half of n", &[4, 6], some);
     tally.assert_each("row", &[0, 1, 2], some);
     tally.assert_each("wrong plan", &[0, 1], some);
     tally.assert_each("wrong table", &[0, 1], some);

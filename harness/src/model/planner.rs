@@ -99,7 +99,8 @@ fn decide_slot(survey: &Survey, slot: usize) -> u8 {
     }
 }
 
-/// Fetch if anyone has it, else truncate if a majority, more than half of all, does not, else wait.
+/// Fetch if anyone has it; else truncate if those that did not say that they lack it, the leader and
+/// those out of reach among them, are not more than half of all; else wait.
 fn decide_faulty_slot(survey: &Survey, slot: usize) -> u8 {
     let mut dont_have: u32 = 0;
     for replica in 1..=survey.n {
@@ -109,7 +110,8 @@ fn decide_faulty_slot(survey: &Survey, slot: usize) -> u8 {
             Some(Reply::HaveFaulty) | None => {}
         }
     }
-    if 2 * dont_have.count_ones() as usize > survey.n {
+    let may_hold_it = survey.n - dont_have.count_ones() as usize;
+    if 2 * may_hold_it <= survey.n {
         PLAN_TRUNCATE
     } else {
         PLAN_WAIT

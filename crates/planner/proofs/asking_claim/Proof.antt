@@ -1,8 +1,9 @@
 -- The claim's parts are laws.
 use native.Mathlib.Omega.{arith}
+use Rattle.search.proofs.CountLaws.{count-not}
 use Rattle.image.proofs.ViewLaws.{sound-elim}
 use Rattle.image.proofs.VerdictLaws.{whole-verdict}
-use Rattle.planner.specs.Rules.{majority}
+use Rattle.planner.specs.Rules.{majority, dontHave}
 use Rattle.planner.proofs.VerdictTies.{faulty-verdict, used-verdict}
 use Rattle.planner.proofs.AskingLaws as law
 use Rattle.planner.proofs.MajorityLaws as many
@@ -20,7 +21,11 @@ returns z = record {
   majority-four = unfold majority in omega arith;
   majority-six = unfold majority in omega arith;
   majority-is = many.majority-is;
+  others = λ S W k. count-not (dontHave S W k) (S .n);
+  unasked = law.unasked;
   cuts = many.cuts;
+  cuts-more = many.cuts-more;
+  cuts-odd = λ k d. many.cuts-odd k d;
 }
 
 pub asking-claim-spec : {M : Type 1} → statement M

@@ -2,15 +2,18 @@ use native.Mathlib.Omega.{arith}
 use borrow.Author.Needs.{needs}
 use lib.Count.{ones-le}
 use Rattle.planner.specs.Rules.{majority}
-use Rattle.planner.proofs.MajorityLaws.{truncates}
+use Rattle.planner.proofs.MajorityLaws.{ones-fit, truncates}
 use Rattle.decide.proofs.rules.may_truncate.Statement.{statement}
 use Rattle.decide.proofs.rules.may_truncate.Tie as tie
 
 lacking-requires : tie.Need-lacking-requires
 lacking-requires c κs = search needs
 
-cast-result : tie.Need-cast-result
-cast-result c = omega (arith, ones-le 32 (c .lacking .result) (omega arith))
+cast-others : tie.Need-cast-others
+cast-others c = omega (arith, ones-le 32 (c .lacking .result) (omega arith))
+
+sub-others : tie.Need-sub-others
+sub-others c = omega (arith, ones-fit (c .before .args .n) (c .lacking .result) _ (c .lacking .ensures 0))
 
 add-result : tie.Need-add-result
 add-result c = search needs
@@ -20,4 +23,4 @@ unfolding majority
 returns c = λ l. truncates (c .before .args .n) _ _ _ (omega arith) (c .lacking .ensures l)
 
 pub may-truncate-spec : {M : Type 1} → statement M
-may-truncate-spec = tie.close (tie.spec lacking-requires cast-result add-result returns)
+may-truncate-spec = tie.close (tie.spec lacking-requires cast-others sub-others add-result returns)
