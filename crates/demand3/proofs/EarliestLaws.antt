@@ -8,6 +8,7 @@ use lib.Dec.{eqb, ltb}
 use borrow.Author.Tests.{leb-true, le-ltb}
 use Rattle.search.specs.Search.{lowest, count}
 use Rattle.search.proofs.CountLaws.{count-cong}
+use Rattle.search.proofs.ListedLaws.{listed-at}
 use Rattle.slices.specs.Parts.{Bytes}
 use Rattle.slices.specs.Same.{same}
 use Rattle.record.specs.Layout.{freshEntry}
@@ -23,7 +24,7 @@ use Rattle.example.specs.Undamaged.{payloadA, imageWith, emptyImage, imageA}
 use Rattle.starred.specs.Cards.{noise}
 use Rattle.starred.specs.Sizes.{asked, cards}
 use Rattle.starred.proofs.ComputedLaws.{computed}
-use Rattle.starred.proofs.SeenLaws.{over, holds, recordOf, entryOf, listed-at, over-at}
+use Rattle.starred.proofs.SeenLaws.{over, holds, recordOf, entryOf, over-at}
 use Rattle.demand3.specs.Supposed.{held, committed}
 use Rattle.demand3.specs.Before.{SlotDamage, spared, entryDamaged, HeaderDamage, headerSpared, Damage, payloadIn, historyOf, DamagedCluster}
 use Rattle.demand3.specs.Histories.{writtenTo, noFlights}

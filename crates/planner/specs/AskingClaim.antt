@@ -1,4 +1,4 @@
--- What document 01 says of the planner's words, as a claim that the check demands.
+-- What documents 01 and 02 say of the planner's words, as a claim that the check demands.
 use Prim.Native.Nat.{ℕ, suc, _+_, _-_, _/_, _<_}
 use mathlib.Core.Path.{_≡_}
 use mathlib.Core.Bool.{true, false, not, _&&_, _||_}
@@ -33,10 +33,10 @@ pub record AskingClaim : Type 0 where
   pub majority-six : majority 6 ≡ 4
   -- d of n are a majority exactly if they are more than half
   pub majority-is : (n d : ℕ) → leb (majority n) d ≡ ltb n (d + d)
-  -- of n replicas all but the don't-haves did not answer don't-have, and the leader and those away are among these (02, Eight)
+  -- those that did not answer don't-have are n less the don't-haves; the leader and those away, who answer nothing, are among them (02, Eight)
   pub others : (S : Setting) (W : ℕ → View) (k : ℕ) → count (λ c. not (dontHave S W k c)) (S .n) ≡ S .n - count (dontHave S W k) (S .n)
   pub unasked : (S : Setting) (W : ℕ → View) (k c : ℕ) → answers S W c ≡ false → dontHave S W k c ≡ false
-  -- so d don't-haves cut exactly if they are half of n or more: by document 01's rule, or as exactly half. Of an odd n that is 01's rule
+  -- d don't-haves cut exactly if they are half of n or more: a majority, as document 01 has it, or exactly half. For an odd n that is 01's rule
   pub cuts : (n d : ℕ) → mayTruncate n d ≡ leb n (d + d)
   pub cuts-more : (n d : ℕ) → mayTruncate n d ≡ (leb (majority n) d || eqb n (d + d))
   pub cuts-odd : (k d : ℕ) → mayTruncate (k + k + 1) d ≡ leb (majority (k + k + 1)) d

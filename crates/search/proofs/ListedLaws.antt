@@ -28,6 +28,10 @@ unfolding listed
 listed-cong zero f g h = refl
 listed-cong {A = A} (suc b) f g h = rw (h b (omega arith)) (ap (λ (t : List A). t ++ (g b ∷ [])) (listed-cong b f g (λ k l. h k (omega arith))))
 
+-- lists that are the same have the same elements
+pub listed-at {ℓ} : {A : Type ℓ} (b : ℕ) (f g : ℕ → A) → listed b f ≡ listed b g → (k : ℕ) → k < b → f k ≡ g k
+listed-at {A = A} b f g e k h = sym (getD-listed b f k (f k) h) ∙ ap (λ (t : List A). getD t k (f k)) e ∙ getD-listed b g k (f k) h
+
 -- a list with these elements is this list
 pub listed-ext {ℓ} : {A : Type ℓ} (b : ℕ) (f : ℕ → A) (d : A) (l : List A) → length l ≡ b → ((k : ℕ) → k < b → getD l k d ≡ f k) → l ≡ listed b f
 listed-ext b f d l e h =

@@ -1,13 +1,12 @@
 -- What the cards of the second table mean and how they are planned, for 3 to 7 replicas and every number of don't-haves that waits.
-use Prim.Native.Nat.{ℕ, suc, _+_, _-_, _≤_, _<_}
-use mathlib.Core.Path.{_≡_, sym, ap, _∙_}
+use Prim.Native.Nat.{ℕ, suc, _+_, _-_, _≤_}
+use mathlib.Core.Path.{_≡_}
 use mathlib.Core.Bool.{Bool, true, cond, _||_}
 use mathlib.Core.List.{List, [], _∷_}
 use native.Mathlib.Omega.{arith}
 use lib.Dec.{eqb, leb, ltb}
-use lib.ListN.{getD}
 use Rattle.search.specs.Search.{count, listed}
-use Rattle.search.proofs.ListedLaws.{getD-listed}
+use Rattle.search.proofs.ListedLaws.{listed-at}
 use Rattle.record.specs.Layout.{freshEntry}
 use Rattle.record.specs.Meaning.{proper, Record, good, blank, Entry, intact, broken}
 use Rattle.image.specs.Cluster.{decode}
@@ -43,10 +42,6 @@ pub record Seen : Type 0 where
   pub lacking : over (λ n d. count (dontHave (named (asked n d)) (viewsIn (named (asked n d)) (cards n d)) 0) n) ≡ over (λ n d. d)
   pub holders : over (λ n d. leb (majority n) (count (holds d) n)) ≡ over (λ n d. true)
   pub waits : over planned ≡ over (λ n d. waiting 1)
-
--- lists of the same values have the same value at each number
-pub listed-at : {A : Type 0} (b : ℕ) (f g : ℕ → A) → listed b f ≡ listed b g → (k : ℕ) → k < b → f k ≡ g k
-listed-at b f g e k h = sym (getD-listed b f k (f k) h) ∙ ap (λ l. getD l k (f k)) e ∙ getD-listed b g k (f k) h
 
 pub over-at : {A : Type 0} (f g : ℕ → ℕ → A) → over f ≡ over g → (n d : ℕ) → 3 ≤ n → n ≤ 7 → majority n + d ≤ n → f n d ≡ g n d
 unfolding over
