@@ -114,7 +114,7 @@ fn lacking(
     set
 }
 
-// Whether those that did not answer don't-have, the leader and those away included, are fewer than a majority of n.
+// Whether the possible holders, all that did not answer don't-have, the leader and those away included, are fewer than a majority of n.
 fn may_truncate(
     readable: u32,
     conditions: &[u8; SURVEY_SLOTS],
@@ -128,8 +128,8 @@ fn may_truncate(
         (count (dontHave (surveySetting n leader) (surveyViews l readable (now (conditions .entry)) (now (epochs .entry))) k) n)) ⌝ }
 {
     let set = lacking(readable, conditions, epochs, n, leader, k);
-    let others = n - u32::count_ones(set) as usize;
-    others < n / 2 + 1
+    let holders = n - u32::count_ones(set) as usize;
+    holders < n / 2 + 1
 }
 
 // The plan byte of a slot that is not faulty.

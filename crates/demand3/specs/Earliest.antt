@@ -25,7 +25,7 @@ ruleBy test S W k =
     (cond (ltb (donor S W k) (S .n)) Fetch (cond (test (S .n) (count (dontHave S W k) (S .n))) Truncate Wait))
     Keep
 
--- before the damage all but the d replicas next to the leader had A
+-- before the damage all but the d replicas after the leader had A
 unfoldable pub undamagedBut : ℕ → Cluster
 undamagedBut d c = cond (eqb c 0 || ltb d c) imageA emptyImage
 

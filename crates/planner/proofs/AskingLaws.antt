@@ -5,6 +5,7 @@ use mathlib.Core.Bool.{Bool, true, false, not, _&&_, true≢false}
 use native.Mathlib.Omega.{arith}
 use lib.Dec.{eqb}
 use lib.ListN.{length}
+use borrow.Author.Tests.{eq-eqb}
 use Rattle.search.specs.Search.{oneIf}
 use Rattle.slices.specs.Parts.{Bytes}
 use Rattle.image.specs.View.{Condition, Unused, Whole, RecordLost, Faulty, Lost, View, isSize, isSlots, isLost, viewOf, callRefusal, readRefusal}
@@ -27,10 +28,18 @@ own-refusal n m leader present b c sized slots size h =
     = sym (call-none (suc c) n m (length (imagePart m b c)) slots sized (is-replica n (suc c) (omega arith) (omega arith)) (omega (arith, l, size-is m))) in
     ap (λ (r : ℕ). has present c && eqb r 0) (sym (else-next _ z))
 
--- the leader, and who is away or unreadable, answers nothing
-pub unasked : (S : Setting) (W : ℕ → View) (k c : ℕ) → answers S W c ≡ false → dontHave S W k c ≡ false
-unfolding dontHave
-unasked S W k c h = rw h refl
+-- the leader answers nothing, nor does one that is away or unreadable
+pub leader-may-hold : (S : Setting) (W : ℕ → View) (k : ℕ) → dontHave S W k (S .leader) ≡ false
+unfolding dontHave answers
+leader-may-hold S W k = rw (eq-eqb (S .leader) (S .leader) refl) refl
+
+pub away-may-hold : (S : Setting) (W : ℕ → View) (k c : ℕ) → W c .readable ≡ false → dontHave S W k c ≡ false
+unfolding dontHave answers
+away-may-hold S W k c h = rw h (go (not (eqb c (S .leader))) (not (agrees S W c k)))
+  where
+    go : (s t : Bool) → ((s && false) && t) ≡ false
+    go true t = refl
+    go false t = refl
 
 pub one-answer : (S : Setting) (W : ℕ → View) (k c : ℕ) → isLost (W c .condition k) ≡ false
     → oneIf (have S W k c) + oneIf (haveFaulty S W k c) + oneIf (dontHave S W k c) ≡ oneIf (answers S W c)

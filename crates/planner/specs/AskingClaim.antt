@@ -33,9 +33,10 @@ pub record AskingClaim : Type 0 where
   pub majority-six : majority 6 ≡ 4
   -- d of n are a majority exactly if they are more than half
   pub majority-is : (n d : ℕ) → leb (majority n) d ≡ ltb n (d + d)
-  -- those that did not answer don't-have are n less the don't-haves; the leader and those away, who answer nothing, are among them (02, Eight)
-  pub others : (S : Setting) (W : ℕ → View) (k : ℕ) → count (λ c. not (dontHave S W k c)) (S .n) ≡ S .n - count (dontHave S W k) (S .n)
-  pub unasked : (S : Setting) (W : ℕ → View) (k c : ℕ) → answers S W c ≡ false → dontHave S W k c ≡ false
+  -- those that did not answer don't-have are n less the don't-haves; the leader is among them, and those that are away or unreadable (02, Eight)
+  pub may-hold : (S : Setting) (W : ℕ → View) (k : ℕ) → count (λ c. not (dontHave S W k c)) (S .n) ≡ S .n - count (dontHave S W k) (S .n)
+  pub leader-may-hold : (S : Setting) (W : ℕ → View) (k : ℕ) → dontHave S W k (S .leader) ≡ false
+  pub away-may-hold : (S : Setting) (W : ℕ → View) (k c : ℕ) → W c .readable ≡ false → dontHave S W k c ≡ false
   -- d don't-haves cut exactly if they are half of n or more: a majority, as document 01 has it, or exactly half. For an odd n that is 01's rule
   pub cuts : (n d : ℕ) → mayTruncate n d ≡ leb n (d + d)
   pub cuts-more : (n d : ℕ) → mayTruncate n d ≡ (leb (majority n) d || eqb n (d + d))

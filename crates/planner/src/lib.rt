@@ -41,7 +41,7 @@ pub struct Plan {
     pub waiting: usize,
 }
 
-// Readable, faulty, the three answers and the majority are what document 01 says, as a theorem.
+// Readable, faulty, the three answers, the majority and when a slot is cut are what documents 01 and 02 say, as a theorem.
 pub fn asking_claim()
     ensures { λ _. ⌜ AskingClaim ⌝ }
 {}

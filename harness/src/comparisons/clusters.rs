@@ -16,7 +16,7 @@ pub fn compare_plan(rng: &mut Rng, call: &Call, tally: &mut Tally) {
     match outcome.answer.code() {
         0 => {
             count_plan(&outcome, tally);
-            count_dont_haves(call, &outcome, tally);
+            count_cut_by_half(call, &outcome, tally);
         }
         13 => count_lengths(call, tally),
         _ => {}
@@ -42,8 +42,8 @@ fn count_plan(outcome: &Outcome, tally: &mut Tally) {
     }
 }
 
-/// For each n whether exactly half of it are the don't-haves that cut a slot.
-fn count_dont_haves(call: &Call, outcome: &Outcome, tally: &mut Tally) {
+/// For each n, whether a slot is cut by exactly half of n.
+fn count_cut_by_half(call: &Call, outcome: &Outcome, tally: &mut Tally) {
     let Call::Plan {
         n,
         m,
