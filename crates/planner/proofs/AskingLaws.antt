@@ -8,6 +8,7 @@ use lib.ListN.{length}
 use borrow.Author.Tests.{eq-eqb}
 use Rattle.search.specs.Search.{oneIf}
 use Rattle.slices.specs.Parts.{Bytes}
+use Rattle.slices.proofs.SameLaws.{and-off}
 use Rattle.image.specs.View.{Condition, Unused, Whole, RecordLost, Faulty, Lost, View, isSize, isSlots, isLost, viewOf, callRefusal, readRefusal}
 use Rattle.image.specs.Read.{isWhole}
 use Rattle.image.specs.Cluster.{imageAt, imagePart, decode}
@@ -34,12 +35,10 @@ unfolding dontHave answers
 leader-may-hold S W k = rw (eq-eqb (S .leader) (S .leader) refl) refl
 
 pub away-may-hold : (S : Setting) (W : ℕ → View) (k c : ℕ) → W c .readable ≡ false → dontHave S W k c ≡ false
-unfolding dontHave answers
-away-may-hold S W k c h = rw h (go (not (eqb c (S .leader))) (not (agrees S W c k)))
-  where
-    go : (s t : Bool) → ((s && false) && t) ≡ false
-    go true t = refl
-    go false t = refl
+unfolding dontHave
+away-may-hold S W k c h =
+    let silent : answers S W c ≡ false = unfold answers in rw h (and-off (not (eqb c (S .leader)))) in
+    rw silent refl
 
 pub one-answer : (S : Setting) (W : ℕ → View) (k c : ℕ) → isLost (W c .condition k) ≡ false
     → oneIf (have S W k c) + oneIf (haveFaulty S W k c) + oneIf (dontHave S W k c) ≡ oneIf (answers S W c)

@@ -18,9 +18,6 @@ pub majorities-meet : (n : ℕ) → n < majority n + majority n
 unfolding majority
 majorities-meet n = omega arith
 
-majority-pos : (n : ℕ) → 0 < majority n
-majority-pos n = omega (arith, majorities-meet n)
-
 -- with one fewer they need not
 pub majority-least : (n : ℕ) → majority n + majority n ≤ n + 2
 unfolding majority
@@ -73,23 +70,28 @@ cuts-odd k d = cuts-more (k + k + 1) d ∙ rw (ne-eqb (k + k + 1) (d + d) (λ e.
     or-false true = refl
     or-false false = refl
 
--- all that demand 3 asks of the rule: don't-haves that cut and a majority are together more than n
-pub truncate-needs : (n d : ℕ) → mayTruncate n d ≡ true → n < majority n + d
+-- d don't-haves cut exactly if they and a majority are together more than n
+cuts-exactly : (n d : ℕ) → mayTruncate n d ≡ ltb n (majority n + d)
 unfolding mayTruncate
-truncate-needs n d e = omega (arith, ltb-true (n - d) (majority n) e)
-
--- with fewer, a majority may hold what they lack
-pub too-few : (n d : ℕ) → mayTruncate n d ≡ false → majority n + d ≤ n
-unfolding mayTruncate
-too-few n d e = omega (arith, ltb-false (n - d) (majority n) e, majority-pos n)
-
-pub waits-if : (n d : ℕ) → majority n + d ≤ n → mayTruncate n d ≡ false
-unfolding mayTruncate
-waits-if n d h = le-ltb (n - d) (majority n) (omega (arith, h))
+cuts-exactly n d = go (decLt n (majority n + d))
+  where
+    go : Dec (n < majority n + d) → ltb (n - d) (majority n) ≡ ltb n (majority n + d)
+    go (yes h) = lt-ltb (n - d) (majority n) (omega (arith, h, majorities-meet n)) ∙ sym (lt-ltb n (majority n + d) h)
+    go (no h) = le-ltb (n - d) (majority n) (omega (arith, h)) ∙ sym (le-ltb n (majority n + d) (omega (arith, h)))
 
 pub cuts-if : (n d : ℕ) → n < majority n + d → mayTruncate n d ≡ true
-unfolding mayTruncate
-cuts-if n d h = lt-ltb (n - d) (majority n) (omega (arith, h, majority-pos n))
+cuts-if n d h = cuts-exactly n d ∙ lt-ltb n (majority n + d) h
+
+pub waits-if : (n d : ℕ) → majority n + d ≤ n → mayTruncate n d ≡ false
+waits-if n d h = cuts-exactly n d ∙ le-ltb n (majority n + d) h
+
+-- all that demand 3 asks of the rule
+pub truncate-needs : (n d : ℕ) → mayTruncate n d ≡ true → n < majority n + d
+truncate-needs n d e = ltb-true n (majority n + d) (sym (cuts-exactly n d) ∙ e)
+
+-- with fewer don't-haves a majority may hold what they lack
+pub too-few : (n d : ℕ) → mayTruncate n d ≡ false → majority n + d ≤ n
+too-few n d e = ltb-false n (majority n + d) (sym (cuts-exactly n d) ∙ e)
 
 -- ---- in the code: all but the ones of a set are compared with x
 
