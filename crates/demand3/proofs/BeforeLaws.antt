@@ -9,29 +9,12 @@ use Rattle.record.specs.Meaning.{Record, good, blank, Entry, intact}
 use Rattle.image.specs.Image.{Image}
 use Rattle.image.specs.Cluster.{Cluster}
 use Rattle.image.specs.View.{Condition, Unused, Whole, RecordLost, Faulty, Lost, conditionAt, epochOf, epochAt, logLength}
-use Rattle.image.specs.Verdict.{verdictOf, verdictAt, isFresh}
 use Rattle.image.proofs.ViewLaws.{length-le, blank-next}
+use Rattle.image.proofs.VerdictLaws.{is-stored}
 use Rattle.planner.specs.Setting.{Setting}
 use Rattle.demand3.specs.Supposed.{DamagedSlot, undamaged, recordBad, entryBad, Damaged, Supposed}
 use Rattle.demand3.specs.Before.{Flight, FlightSlot, arrived, recordAlone, Before, SlotDamage, spared, recordDamaged, entryDamaged, unusedDamaged, Damage, payloadIn, historyOf, DamagedCluster}
 use Rattle.protocol.proofs.AtRest.{whole-slot}
-
--- verdict 1 is whole
-verdict-one : (len k : ℕ) (a : Condition) (fresh : Bool) → verdictOf len k a fresh ≡ 1 → a ≡ Whole
-unfolding verdictOf
-verdict-one len k Whole fresh e = refl
-verdict-one len k RecordLost fresh e = absurd (omega (arith, e))
-verdict-one len k Faulty fresh e = go (eqb (suc k) len) e
-  where
-    go : (t : Bool) → _≡_ {A = ℕ} (cond t 4 3) 1 → Faulty ≡ Whole
-    go true x = absurd (omega (arith, x))
-    go false x = absurd (omega (arith, x))
-verdict-one len k Unused fresh e = go (eqb k len && not fresh) e
-  where
-    go : (t : Bool) → _≡_ {A = ℕ} (cond t 5 0) 1 → Unused ≡ Whole
-    go true x = absurd (omega (arith, x))
-    go false x = absurd (omega (arith, x))
-verdict-one len k Lost fresh e = absurd (omega (arith, e))
 
 -- a slot that was stored is one whose record and entry arrived
 stored-slot : (r : Record) (x : Entry) (e : ℕ) (p : Bytes) → r ≡ good e → x ≡ intact e p → FlightSlot (payloadIn x) r x
@@ -56,13 +39,13 @@ blank-kept unusedDamaged e = e
 module _ (m : ℕ) (f : Flight) (i : Image) (b : Before m f i) where
   -- the slot and its payload
   flight-slot : (k : ℕ) → k < logLength m i → FlightSlot (historyOf m f i .payload k) (i .records k) (i .entries k)
-  unfolding historyOf verdictAt conditionAt
+  unfolding historyOf
   flight-slot k h = go (f .inFlight k) refl
     where
       go : (t : Bool) → f .inFlight k ≡ t → FlightSlot (cond t (f .payload k) (payloadIn (i .entries k))) (i .records k) (i .entries k)
       go true e = b .flying k h e
       go false e =
-          let w = whole-slot (i .records k) (i .entries k) (verdict-one (logLength m i) k (conditionAt i k) (isFresh (i .entries k)) (b .stored k h e)) in
+          let w = whole-slot (i .records k) (i .entries k) (unfold conditionAt in is-stored m i k (b .stored k h e)) in
           stored-slot (i .records k) (i .entries k) (epochOf (i .records k) (i .entries k)) (w .payload) (w .rec) (w .ent)
 
   pub history-damaged : (j : Image) → Damage m i j → Damaged m (historyOf m f i) j

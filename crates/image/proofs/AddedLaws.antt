@@ -7,7 +7,7 @@ use lib.Dec.{eqb}
 use borrow.Author.Tests.{eq-eqb, ne-eqb}
 use Rattle.search.proofs.UpdateLaws.{put-same, put-other}
 use Rattle.slices.specs.Parts.{Bytes}
-use Rattle.record.specs.Meaning.{good, blank, intact}
+use Rattle.record.specs.Meaning.{Entry, good, blank, intact, broken}
 use Rattle.image.specs.Image.{Image}
 use Rattle.image.specs.SetSlot.{setRecord, setEntry}
 use Rattle.image.specs.View.{Condition, Unused, Whole, RecordLost, Faulty, Lost, condition, epochOf, isLost, conditionAt, epochAt, logLength}
@@ -26,21 +26,23 @@ whole-beside e p = rw (eq-eqb e e refl)
 -- ---- verdicts of a slot that keeps condition and entry, while the log grows by one
 
 -- 4 at the last slot becomes 3
-grown-last : (k : ℕ) (a : Condition) (f : Bool) → verdictOf (suc (suc k)) k a f ≡ cond (eqb (verdictOf (suc k) k a f) 4) 3 (verdictOf (suc k) k a f)
+grown-last : (k : ℕ) (a : Condition) (x : Entry) → verdictOf (suc (suc k)) k a x ≡ cond (eqb (verdictOf (suc k) k a x) 4) 3 (verdictOf (suc k) k a x)
 unfolding verdictOf
-grown-last k Unused f = rw (ne-eqb k (suc (suc k)) (λ q. omega arith), ne-eqb k (suc k) (λ q. omega arith))
-grown-last k Whole f = refl
-grown-last k RecordLost f = refl
-grown-last k Faulty f = rw (ne-eqb (suc k) (suc (suc k)) (λ q. omega arith), eq-eqb (suc k) (suc k) refl)
-grown-last k Lost f = refl
+grown-last k Unused x = rw (ne-eqb k (suc (suc k)) (λ q. omega arith), ne-eqb k (suc k) (λ q. omega arith))
+grown-last k Whole x = refl
+grown-last k RecordLost x = refl
+grown-last k Faulty (intact e p) = refl
+grown-last k Faulty (broken b) = rw (ne-eqb (suc k) (suc (suc k)) (λ q. omega arith), eq-eqb (suc k) (suc k) refl)
+grown-last k Lost x = refl
 
-grown-other : (l k : ℕ) (a : Condition) (f : Bool) → ¬ (k ≡ l) → ¬ (suc k ≡ l) → ¬ (k ≡ suc l) → verdictOf (suc l) k a f ≡ verdictOf l k a f
+grown-other : (l k : ℕ) (a : Condition) (x : Entry) → ¬ (k ≡ l) → ¬ (suc k ≡ l) → ¬ (k ≡ suc l) → verdictOf (suc l) k a x ≡ verdictOf l k a x
 unfolding verdictOf
-grown-other l k Unused f p q r = rw (ne-eqb k l p, ne-eqb k (suc l) r)
-grown-other l k Whole f p q r = refl
-grown-other l k RecordLost f p q r = refl
-grown-other l k Faulty f p q r = rw (ne-eqb (suc k) l q, ne-eqb (suc k) (suc l) (λ z. p (omega arith)))
-grown-other l k Lost f p q r = refl
+grown-other l k Unused x p q r = rw (ne-eqb k l p, ne-eqb k (suc l) r)
+grown-other l k Whole x p q r = refl
+grown-other l k RecordLost x p q r = refl
+grown-other l k Faulty (intact e y) p q r = refl
+grown-other l k Faulty (broken b) p q r = rw (ne-eqb (suc k) l q, ne-eqb (suc k) (suc l) (λ z. p (omega arith)))
+grown-other l k Lost x p q r = refl
 
 -- ---- the image
 module _ (m : ℕ) (i : Image) (l e : ℕ) (p : Bytes) where
@@ -102,12 +104,12 @@ module _ (m : ℕ) (i : Image) (l e : ℕ) (p : Bytes) where
     unfolding verdictAt
     added-verdict-last k q =
         let d : ¬ (k ≡ l) = λ z. omega arith in
-        rw (added-length, added-condition-other k d, added-entry-other k d, here, ← q) (grown-last k (conditionAt i k) (isFresh (i .entries k)))
+        rw (added-length, added-condition-other k d, added-entry-other k d, here, ← q) (grown-last k (conditionAt i k) (i .entries k))
 
     pub added-verdict-other : (k : ℕ) → ¬ (k ≡ l) → ¬ (suc k ≡ l) → ¬ (k ≡ suc l) → verdictAt m (added i l e p) k ≡ verdictAt m i k
     unfolding verdictAt
     added-verdict-other k a b d =
-        rw (added-length, added-condition-other k a, added-entry-other k a, here) (grown-other l k (conditionAt i k) (isFresh (i .entries k)) a b d)
+        rw (added-length, added-condition-other k a, added-entry-other k a, here) (grown-other l k (conditionAt i k) (i .entries k) a b d)
 
     unused-at : (k : ℕ) → l ≤ k → k < m → conditionAt i k ≡ Unused
     unfolding conditionAt condition

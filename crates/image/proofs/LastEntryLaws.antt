@@ -21,30 +21,15 @@ use Rattle.image.specs.SetSlot.{setRecord}
 use Rattle.image.specs.View.{Condition, Unused, Whole, RecordLost, Faulty, Lost, condition, epochOf, conditionAt, epochAt, logLength, readRefusal}
 use Rattle.image.specs.Verdict.{verdictOf, verdictAt}
 use Rattle.image.specs.Append.{lastEpoch, appendRefusal, stored, appended}
-use Rattle.image.specs.LastEntry.{TwoHistories}
+use Rattle.image.specs.LastEntry.{TwoHistories, Untold, MayBeTorn}
 use Rattle.image.proofs.ViewLaws.{Sound, length-le}
 use Rattle.image.proofs.DecodeLaws.{record-fits, entry-fits, record-there, entry-there, record-spliced}
+use Rattle.image.proofs.VerdictLaws.{is-doubtful, is-stale, is-noise}
 use Rattle.image.proofs.StoreLaws.{blanked-length, blanked-sound, record-epoch-other}
 use Rattle.image.proofs.AcceptLaws.{Accepts, readable-size, readable-image, accepts-intro, last-epoch}
 use Rattle.image.proofs.AppendLaws.{readable-still, appended-stored, one-more}
 
--- ---- what verdict 4 says
-
-last-faulty : (len k : ℕ) (a : Condition) (f : Bool) → verdictOf len k a f ≡ 4 → (a ≡ Faulty) × (len ≡ suc k)
-unfolding verdictOf
-last-faulty len k Whole f h = absurd (omega (arith, h))
-last-faulty len k RecordLost f h = absurd (omega (arith, h))
-last-faulty len k Lost f h = absurd (omega (arith, h))
-last-faulty len k Unused f h = go (eqb k len && not f) h
-  where
-    go : (t : Bool) → _≡_ {A = ℕ} (cond t 5 0) 4 → (Unused ≡ Faulty) × (len ≡ suc k)
-    go true h = absurd (omega (arith, h))
-    go false h = absurd (omega (arith, h))
-last-faulty len k Faulty f h = (refl, go (eqb (suc k) len) refl h)
-  where
-    go : (t : Bool) → eqb (suc k) len ≡ t → _≡_ {A = ℕ} (cond t 4 3) 4 → len ≡ suc k
-    go true e h = sym (eqb-true (suc k) len e)
-    go false e h = absurd (omega (arith, h))
+-- ---- what a faulty slot says
 
 -- a faulty slot's record is good, and its entry not intact with that record's epoch
 faulty-slot : (r : Record) (x : Entry) → condition r x ≡ Faulty → (r ≡ good (epochOf r x)) × ((q : Bytes) → x ≡ intact (epochOf r x) q → ⊥)
@@ -167,9 +152,27 @@ module _ (c n m : ℕ) (b : Bytes) (k : ℕ) (r : readRefusal c n m b ≡ 0) (la
         ∙ damaged-entry m b k km size (recordBytes e (suc k)) (written .bytes) (entryBytes e (suc k) p) (length-entry e (suc k) p short);
   }
 
-pub untold : (c n m : ℕ) (b : Bytes) (k : ℕ) → readRefusal c n m b ≡ 0 → verdictAt m (decodeImage c n m b) k ≡ 4 → (p : Bytes) → length p ≤ 200
-    → TwoHistories c n m (spliced b (recordAt k) blankRecord) b k (epochAt (decodeImage c n m b) k) p (part b (entryAt m k) 240)
-unfolding verdictAt
-untold c n m b k r v p short =
-    let w = last-faulty _ k _ _ v in
-    two-histories c n m b k r (w .1) (w .0) p short
+-- ---- the last used slot, by its verdict
+
+module _ (c n m : ℕ) (b : Bytes) (k : ℕ) (r : readRefusal c n m b ≡ 0) where
+  pub untold : verdictAt m (decodeImage c n m b) k ≡ 4 → Untold c n m b k
+  untold v = let w = is-doubtful m (decodeImage c n m b) k v in two-histories c n m b k r (w .1) (w .0)
+
+  pub stale-untold : verdictAt m (decodeImage c n m b) k ≡ 6 → logLength m (decodeImage c n m b) ≡ suc k → Untold c n m b k
+  stale-untold v last = two-histories c n m b k r last (is-stale m (decodeImage c n m b) k v .0)
+
+  -- nothing intact is what a torn store may leave
+  pub torn : verdictAt m (decodeImage c n m b) k ≡ 4 → (p : Bytes) → MayBeTorn k (epochAt (decodeImage c n m b) k) p (part b (entryAt m k) 240)
+  torn v p f q x =
+      let w = is-doubtful m (decodeImage c n m b) k v in
+      absurd (is-noise m (decodeImage c n m b) k 4 (omega arith) (omega arith) v f q (entry-there c n m b k (omega (arith, length-le m (decodeImage c n m b), w .1)) ∙ x))
+
+  -- an intact entry of another epoch is neither torn nor the one being written
+  pub stale-not-torn : verdictAt m (decodeImage c n m b) k ≡ 6 → logLength m (decodeImage c n m b) ≡ suc k → (p : Bytes)
+      → ¬ (MayBeTorn k (epochAt (decodeImage c n m b) k) p (part b (entryAt m k) 240))
+  unfolding epochAt conditionAt
+  stale-not-torn v last p t =
+      let i = decodeImage c n m b in
+      let (a, (f, q, x)) = is-stale m i k v in
+      let km : k < m = omega (arith, length-le m i, last) in
+      faulty-slot (i .records k) (i .entries k) a .1 q (x ∙ ap (λ (e : ℕ). intact e q) (t f q (sym (entry-there c n m b k km) ∙ x) .0))

@@ -81,11 +81,9 @@ read-done {q} e len used x es es′ y vs vs′ l p v = (rw (e, l), rw (e, p), rw
 
 -- what the view tells is what the buffers are filled from
 module _ (m : ℕ) (i : Image) (used : ℕ) (cs es : List ℕ) (s : Seen m i used cs es) where
-  pub seen-verdicts : (l : ℕ) (unfinished : Bool) {vs : List ℕ} → l ≡ m → (used < m → unfinished ≡ not (isFresh (i .entries used)))
-      → ((j : Image) → Marked l j used cs unfinished → vs ≡ verdictsOf l j) → vs ≡ verdictsOf m i
-  seen-verdicts l unfinished {vs} h u f =
-      let g : (j : Image) → Marked m j used cs unfinished → vs ≡ verdictsOf m j = rw h at f in
-      g i (record { length-is = s .length-is; conditions-are = s .conditions-are; unfinished-is = u })
+  pub seen-verdicts : (unfinished : Bool) {vs : List ℕ} → (used < m → unfinished ≡ not (isFresh (i .entries used)))
+      → (Marked m i used cs unfinished → vs ≡ verdictsOf m i) → vs ≡ verdictsOf m i
+  seen-verdicts unfinished u f = f (record { length-is = s .length-is; conditions-are = s .conditions-are; unfinished-is = u })
 
   pub seen-epochs : (l : ℕ) {es′ : List ℕ} → l ≡ m → es′ ≡ listed l (λ k. getD es k 0) → es′ ≡ epochsOf m i
   unfolding epochsOf

@@ -1,31 +1,44 @@
--- Reading one image, in document 01's sentences.
+-- Reading one image, in the sentences of documents 01 and 02.
 use Prim.Native.Nat.{ℕ, suc, _-_, _≤_, _<_}
 use mathlib.Core.Path.{_≡_, refl, sym, ap, _∙_}
-use mathlib.Core.Bool.{Bool, true, _&&_}
+use mathlib.Core.Bool.{Bool, true, false, cond, not, _&&_}
 use native.Mathlib.Omega.{arith}
-use lib.Dec.{leb}
+use lib.Dec.{eqb, leb}
+use lib.ListN.{length}
 use borrow.Author.Tests.{eq-eqb, ne-eqb}
 use Rattle.slices.specs.Parts.{Bytes, part}
 use Rattle.slices.specs.Same.{same}
 use Rattle.slices.proofs.SameLaws.{and-off, same-eq, same-differs}
 use Rattle.record.specs.Layout.{freshEntry}
-use Rattle.record.specs.Meaning.{Entry, good, blank, bad, intact, broken}
-use Rattle.record.proofs.EntryLaws.{intact-for, intact-payload}
+use Rattle.record.specs.Meaning.{Record, Entry, good, blank, bad, intact, broken}
+use Rattle.record.specs.Exactly.{IntactFor}
+use Rattle.record.proofs.EntryLaws.{intact-for, intact-payload, one-index}
 use Rattle.image.specs.Image.{Image, entryAt, decodeImage}
 use Rattle.image.specs.View.{Unused, Whole, RecordLost, Faulty, condition, epochOf, conditionAt, epochAt, logLength, imageRefusal, readRefusal}
 use Rattle.image.specs.Verdict.{isFresh, verdictAt}
 use Rattle.image.specs.Read.{hasPayload, payloadOf}
-use Rattle.image.specs.ReadingClaim.{Reading}
-use Rattle.image.proofs.RefusalLaws.{else-zero-r}
+use Rattle.image.specs.ReadingClaim.{Stale, Reading}
+use Rattle.image.proofs.RefusalLaws.{else-zero-l, else-zero-r}
+use Rattle.image.proofs.CallLaws.{slots-high, called-slots}
 use Rattle.image.proofs.DecodeLaws.{entry-there}
 use Rattle.image.proofs.ViewLaws.{Sound, sound-elim, gap-intro, length-count}
-use Rattle.image.proofs.VerdictLaws.{whole-verdict, verdict-whole, verdict-lost, verdict-faulty, verdict-unused}
+use Rattle.image.proofs.VerdictLaws.{whole-verdict, verdict-whole, verdict-lost, verdict-stale, verdict-noise, verdict-unused, is-stale, is-noise}
 use Rattle.image.proofs.VerdictSteps.{fresh-is}
 use Rattle.image.proofs.PayloadLaws.{has-below}
 
 -- ---- one slot, of its record and its entry
 
-module _ (i : Image) (k : ℕ) where
+-- a faulty slot beside an intact entry: the record is good, with another epoch
+faulty-beside : (r : Record) (f : ℕ) (p : Bytes) → condition r (intact f p) ≡ Faulty → (e : ℕ) × (r ≡ good e) × ¬ (f ≡ e)
+unfolding condition
+faulty-beside (good e) f p h = (e, refl, λ q. not-both (rw (eq-eqb e f (sym q)) at h))
+  where
+    not-both : ¬ (Whole ≡ Faulty)
+    not-both h = let z : _≡_ {A = ℕ} 0 1 = cc in omega arith
+faulty-beside blank f p h = absurd (let z : _≡_ {A = ℕ} 0 1 = cc in omega arith)
+faulty-beside (bad b) f p h = absurd (let z : _≡_ {A = ℕ} 0 1 = cc in omega arith)
+
+module _ (m : ℕ) (i : Image) (k : ℕ) where
   good-intact : (e : ℕ) (p : Bytes) → i .records k ≡ good e → i .entries k ≡ intact e p → conditionAt i k ≡ Whole
   unfolding conditionAt condition
   good-intact e p r x = rw (r, x, eq-eqb e e refl)
@@ -41,6 +54,28 @@ module _ (i : Image) (k : ℕ) where
       go : (x : Entry) → i .entries k ≡ x → condition (good e) x ≡ Faulty
       go (intact d p) q = rw (ne-eqb e d (λ z. f p (rw (sym z) at q)))
       go (broken z) q = refl
+
+  -- its entry is intact with another epoch, or not intact at all
+  good-stale : Stale i k → verdictAt m i k ≡ 6
+  good-stale s =
+      verdict-stale m i k (s .written) (s .payload)
+      (good-other (s .recorded) (s .good-record) (λ p q. s .other-epoch (let z : s .written ≡ s .recorded = cc in z)))
+      (s .intact-entry)
+
+  good-noise : (e : ℕ) → i .records k ≡ good e → ((f : ℕ) (p : Bytes) → ¬ (i .entries k ≡ intact f p))
+      → verdictAt m i k ≡ cond (eqb (suc k) (logLength m i)) 4 3
+  good-noise e r f = go (i .entries k) refl
+    where
+      go : (x : Entry) → i .entries k ≡ x → verdictAt m i k ≡ cond (eqb (suc k) (logLength m i)) 4 3
+      go (intact d p) q = absurd (f d p q)
+      go (broken z) q = verdict-noise m i k z (good-other e r (f e)) q
+
+  stale-good : verdictAt m i k ≡ 6 → Stale i k
+  unfolding conditionAt
+  stale-good h =
+      let (a, (f, p, x)) = is-stale m i k h in
+      let (e, r, d) = faulty-beside (i .records k) f p (rw x at a) in
+      record { recorded = e; written = f; payload = p; good-record = r; intact-entry = x; other-epoch = d }
 
   blank-unused : i .records k ≡ blank → conditionAt i k ≡ Unused
   unfolding conditionAt condition
@@ -71,8 +106,12 @@ module _ (c n m : ℕ) (b : Bytes) (ok : readRefusal c n m b ≡ 0) where
   unfolding readRefusal
   sound = sound-elim m i (else-zero-r _ (imageRefusal m i) ok)
 
+  few : m ≤ 64
+  unfolding readRefusal
+  few = slots-high m (called-slots c n m (length b) (else-zero-l _ (imageRefusal m i) ok))
+
   unused : (k : ℕ) → k < m → len ≤ k → conditionAt i k ≡ Unused
-  unused k h l = blank-unused i k (sound .tail k l h)
+  unused k h l = blank-unused m i k (sound .tail k l h)
 
   fresh-at : (k : ℕ) → k < m → isFresh (i .entries k) ≡ same (part b (entryAt m k) 240) freshEntry
   fresh-at k h = ap isFresh (entry-there c n m b k h) ∙ fresh-is (suc k) (part b (entryAt m k) 240)
@@ -97,17 +136,27 @@ module _ (c n m : ℕ) (b : Bytes) (ok : readRefusal c n m b ≡ 0) where
       let l : k < m = omega (arith, has-below m (suc k) i h) in
       rw (ok, h, z) (intact-payload (suc k) e p _ (intact-for (suc k) _ e p (sym (entry-there c n m b k l) ∙ x)))
 
+  elsewhere : (k j e f : ℕ) (p : Bytes) → k < m → j ≤ m → i .records k ≡ good e → IntactFor j f p (part b (entryAt m k) 240) → ¬ (j ≡ suc k)
+      → verdictAt m i k ≡ cond (eqb (suc k) len) 4 3
+  elsewhere k j e f p h l r x d =
+      good-noise m i k e r (λ g q y. d (one-index j (suc k) f g p q _ (omega (arith, few)) (omega (arith, few)) x (intact-for (suc k) _ g q (sym (entry-there c n m b k h) ∙ y))))
+
   pub reads : Reading c n m b i len
   unfolding hasPayload
   reads = record {
     length-is = length-count m i (gap-intro m i (sound .tail));
-    epoch-good = good-epoch i;
-    epoch-else = bad-epoch i;
-    epoch-unused = blank-epoch i;
-    whole = λ k e p r x. verdict-whole m i k (good-intact i k e p r x);
-    record-lost = λ k e z p r x. verdict-lost m i k (bad-intact i k e z p r x);
-    damaged = λ k e r f l. verdict-faulty m i k (good-other i k e r f) ∙ rw (ne-eqb (suc k) len l);
-    ambiguous = λ k e r f l. verdict-faulty m i k (good-other i k e r f) ∙ rw (eq-eqb (suc k) len l);
+    epoch-good = good-epoch m i;
+    epoch-else = bad-epoch m i;
+    epoch-unused = blank-epoch m i;
+    whole = λ k e p r x. verdict-whole m i k (good-intact m i k e p r x);
+    record-lost = λ k e z p r x. verdict-lost m i k (bad-intact m i k e z p r x);
+    stale = good-stale m i;
+    stale-only = stale-good m i;
+    damaged = λ k e r f l. good-noise m i k e r f ∙ rw (ne-eqb (suc k) len l);
+    ambiguous = λ k e r f l. good-noise m i k e r f ∙ rw (eq-eqb (suc k) len l);
+    damaged-only = λ k f p h. is-noise m i k 3 (omega arith) (omega arith) h f p;
+    ambiguous-only = λ k f p h. is-noise m i k 4 (omega arith) (omega arith) h f p;
+    misplaced = elsewhere;
     unfinished = last-not;
     unused-fresh = last-fresh;
     unused-behind = behind;

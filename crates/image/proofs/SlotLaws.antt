@@ -40,7 +40,7 @@ module _ (m : ℕ) (b : Bytes) (k : ℕ) (h : k < m) {at : ℕ} where
 -- ---- a good record
 
 -- no entry is both
-apart : {a : EntryState} {e size : ℕ} → a ≡ Intact e size → a ≡ Broken → ⊥
+pub apart : {a : EntryState} {e size : ℕ} → a ≡ Intact e size → a ≡ Broken → ⊥
 apart p q = let z : _≡_ {A = ℕ} 0 1 = cc in omega arith
 
 pub good-broken : (e : ℕ) {a : EntryState} → a ≡ Broken → (x : Entry) → a ≡ entryAnswer x → SlotIs (good e) x 3 e

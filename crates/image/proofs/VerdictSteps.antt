@@ -15,6 +15,9 @@ use Rattle.slices.proofs.SpliceLaws.{part-lent}
 use Rattle.record.specs.Layout.{freshEntry}
 use Rattle.record.specs.Meaning.{Entry, intact, broken, readEntry}
 use Rattle.record.specs.Exactly.{EntryIs}
+use Rattle.record.specs.Judged.{entryAnswer}
+use Rattle.record.specs.declared.EntryState.{EntryState}
+use Rattle.record.specs.declared.EntryState.the-variants.{Intact, Broken}
 use Rattle.record.proofs.EntryLaws.{entry-is, fresh-not-intact}
 use Rattle.image.specs.Image.{Image, imageSize, entryAt, decodeImage}
 use Rattle.image.specs.View.{Condition, Unused, Whole, RecordLost, Faulty, Lost, conditionAt}
@@ -25,7 +28,7 @@ use Rattle.image.specs.Scan.{Marked}
 use Rattle.image.specs.Read.{verdictsOf}
 use Rattle.image.proofs.DecodeLaws.{entry-there, entry-fits}
 use Rattle.image.proofs.ScannedLaws.{taken-at}
-use Rattle.image.proofs.SlotLaws.{list-more, list-end}
+use Rattle.image.proofs.SlotLaws.{apart, list-more, list-end}
 
 -- ---- conditions by number
 
@@ -70,55 +73,70 @@ module _ (m : ℕ) (b : Bytes) (k : ℕ) (size : length b ≡ imageSize m) {at :
 
 -- ---- the verdict of a slot
 
-module _ (number k used : ℕ) (unfinished : Bool) where
-  -- what is said of a slot's verdict when its condition and the end of the log are known
+module _ (k used : ℕ) (entry : EntryState) where
+  -- what is said of the verdict of a slot whose record is good, and whose entry is not intact with its epoch
+  abbrev FaultyIs : ℕ → Type 0
+  FaultyIs v = (x : Entry) → entry ≡ entryAnswer x → v ≡ verdictOf used k Faulty x
+
+  pub faulty-stale : {e size : ℕ} → entry ≡ Intact e size → FaultyIs 6
+  unfolding verdictOf entryAnswer
+  faulty-stale h (intact f p) q = refl
+  faulty-stale h (broken b) q = absurd (apart h q)
+
+  pub faulty-last : entry ≡ Broken → k + 1 ≡ used → FaultyIs 4
+  unfolding verdictOf entryAnswer
+  faulty-last h l (intact f p) q = absurd (apart q h)
+  faulty-last h l (broken b) q = sym (rw (eq-eqb (suc k) used (omega arith)))
+
+  pub faulty-damaged : entry ≡ Broken → ¬ (k + 1 ≡ used) → FaultyIs 3
+  unfolding verdictOf entryAnswer
+  faulty-damaged h l (intact f p) q = absurd (apart q h)
+  faulty-damaged h l (broken b) q = sym (rw (ne-eqb (suc k) used (λ z. l (omega arith))))
+
+module _ (number k used : ℕ) (unfinished : Bool) (x : Entry) where
+  -- what is said of a slot's verdict when its condition, its entry and the end of the log are known
   abbrev pub VerdictIs : ℕ → Type 0
-  VerdictIs v = (a : Condition) (fresh : Bool) → number ≡ conditionNumber a → (k ≡ used → unfinished ≡ not fresh) → v ≡ verdictOf used k a fresh
+  VerdictIs v = (a : Condition) → number ≡ conditionNumber a → (k ≡ used → unfinished ≡ not (isFresh x)) → v ≡ verdictOf used k a x
 
   pub verdict-none : number ≡ 4 → VerdictIs 0
   unfolding verdictOf
-  verdict-none h a fresh e u = sym (rw (named a Lost (sym e ∙ h)))
+  verdict-none h a e u = sym (rw (named a Lost (sym e ∙ h)))
 
-  pub verdict-last : number ≡ 3 → k + 1 ≡ used → VerdictIs 4
-  unfolding verdictOf
-  verdict-last h l a fresh e u = sym (rw (named a Faulty (sym e ∙ h), eq-eqb (suc k) used (omega arith)))
-
-  pub verdict-damaged : number ≡ 3 → ¬ (k + 1 ≡ used) → VerdictIs 3
-  unfolding verdictOf
-  verdict-damaged h l a fresh e u = sym (rw (named a Faulty (sym e ∙ h), ne-eqb (suc k) used (λ q. l (omega arith))))
+  pub verdict-faulty : (v : ℕ) → number ≡ 3 → v ≡ verdictOf used k Faulty x → VerdictIs v
+  verdict-faulty v h q a e u = q ∙ sym (rw (named a Faulty (sym e ∙ h)))
 
   pub verdict-beyond : number ≡ 0 → ¬ (k ≡ used) → VerdictIs 0
   unfolding verdictOf
-  verdict-beyond h l a fresh e u = sym (rw (named a Unused (sym e ∙ h), ne-eqb k used l))
+  verdict-beyond h l a e u = sym (rw (named a Unused (sym e ∙ h), ne-eqb k used l))
 
   pub verdict-unfinished : number ≡ 0 → k ≡ used → unfinished ≡ true → VerdictIs 5
   unfolding verdictOf
-  verdict-unfinished h l t a fresh e u = sym (rw (named a Unused (sym e ∙ h), eq-eqb k used l, ← u l, t))
+  verdict-unfinished h l t a e u = sym (rw (named a Unused (sym e ∙ h), eq-eqb k used l, ← u l, t))
 
   pub verdict-fresh : number ≡ 0 → k ≡ used → unfinished ≡ false → VerdictIs 0
   unfolding verdictOf
-  verdict-fresh h l t a fresh e u = sym (rw (named a Unused (sym e ∙ h), eq-eqb k used l, ← u l, t))
+  verdict-fresh h l t a e u = sym (rw (named a Unused (sym e ∙ h), eq-eqb k used l, ← u l, t))
 
   pub verdict-same : ¬ (number ≡ 4) → ¬ (number ≡ 3) → ¬ (number ≡ 0) → VerdictIs number
   unfolding verdictOf
-  verdict-same h l q Unused fresh e u = absurd (q e)
-  verdict-same h l q Whole fresh e u = e
-  verdict-same h l q RecordLost fresh e u = e
-  verdict-same h l q Faulty fresh e u = absurd (l e)
-  verdict-same h l q Lost fresh e u = absurd (h e)
+  verdict-same h l q Unused e u = absurd (q e)
+  verdict-same h l q Whole e u = e
+  verdict-same h l q RecordLost e u = e
+  verdict-same h l q Faulty e u = absurd (l e)
+  verdict-same h l q Lost e u = absurd (h e)
 
 -- ---- the slots one after another
 
 module _ (m : ℕ) (i : Image) (used : ℕ) (cs : List ℕ) (unfinished : Bool) (s : Marked m i used cs unfinished) where
-  pub verdict-here : (k v : ℕ) → k < m → VerdictIs (getD cs k 0) k used unfinished v → v ≡ verdictAt m i k
+  pub verdict-here : (k v : ℕ) → k < m → VerdictIs (getD cs k 0) k used unfinished (i .entries k) v → v ≡ verdictAt m i k
   unfolding verdictAt conditionsOf
   verdict-here k v h f =
-      f (conditionAt i k) (isFresh (i .entries k)) (taken-at m (λ k. conditionNumber (conditionAt i k)) cs (s .conditions-are) k h)
+      f (conditionAt i k) (taken-at m (λ k. conditionNumber (conditionAt i k)) cs (s .conditions-are) k h)
       (λ e. s .unfinished-is (omega arith) ∙ rw e)
       ∙ rw (s .length-is)
 
 pub verdicts-more : (m : ℕ) (i : Image) (used : ℕ) (cs : List ℕ) (unfinished : Bool) (k v : ℕ) (vs : List ℕ) → k < m → k < length vs
-    → VerdictIs (getD cs k 0) k used unfinished v → (Marked m i used cs unfinished → take k vs ≡ listed k (verdictAt m i))
+    → VerdictIs (getD cs k 0) k used unfinished (i .entries k) v → (Marked m i used cs unfinished → take k vs ≡ listed k (verdictAt m i))
     → Marked m i used cs unfinished → take (k + 1) (set vs k v) ≡ listed (k + 1) (verdictAt m i)
 verdicts-more m i used cs unfinished k v vs h l f e s = list-more (verdictAt m i) k v vs l (e s) (verdict-here m i used cs unfinished s k v h f)
 

@@ -23,8 +23,23 @@ pub record TwoHistories (c n m : ℕ) (a b : Bytes) (k e : ℕ) (p x : Bytes) : 
   -- damage after the append: it was stored, and its entry became x
   pub damage : spliced (appended c n m a e p) (entryAt m k) x ≡ b
 
--- every image with verdict 4 at slot k has both histories, whatever payload was appended: a is b with that slot's record blank
+-- both histories of slot k of b, whatever payload was appended: a is b with that slot's record blank
+abbrev pub Untold : ℕ → ℕ → ℕ → Bytes → ℕ → Type 0
+Untold c n m b k = (p : Bytes) → length p ≤ 200
+    → TwoHistories c n m (spliced b (recordAt k) blankRecord) b k (epochAt (decodeImage c n m b) k) p (part b (entryAt m k) 240)
+
+-- x may be what an entry store cut in the middle leaves at slot k: any bytes but no intact entry except the one being written, of e and p (01)
+abbrev pub MayBeTorn : ℕ → ℕ → Bytes → Bytes → Type 0
+MayBeTorn k e p x = (f : ℕ) (q : Bytes) → readEntry (suc k) x ≡ intact f q → (f ≡ e) × (q ≡ p)
+
 pub record LastEntry : Type 0 where
-  pub untold : (c n m : ℕ) (b : Bytes) (k : ℕ) → readRefusal c n m b ≡ 0 → verdictAt m (decodeImage c n m b) k ≡ 4
-      → (p : Bytes) → length p ≤ 200
-      → TwoHistories c n m (spliced b (recordAt k) blankRecord) b k (epochAt (decodeImage c n m b) k) p (part b (entryAt m k) 240)
+  -- every image with verdict 4 has both, and its entry store may have been cut in the middle
+  pub untold : (c n m : ℕ) (b : Bytes) (k : ℕ) → readRefusal c n m b ≡ 0 → verdictAt m (decodeImage c n m b) k ≡ 4 → Untold c n m b k
+  pub torn : (c n m : ℕ) (b : Bytes) (k : ℕ) → readRefusal c n m b ≡ 0 → verdictAt m (decodeImage c n m b) k ≡ 4
+      → (p : Bytes) → MayBeTorn k (epochAt (decodeImage c n m b) k) p (part b (entryAt m k) 240)
+  -- with verdict 6 at the last used slot it has both too (02, Two), but there no entry store was cut in the middle: in the crash nothing of it
+  -- arrived, and the entry is the one that stood there before
+  pub stale-untold : (c n m : ℕ) (b : Bytes) (k : ℕ) → readRefusal c n m b ≡ 0 → verdictAt m (decodeImage c n m b) k ≡ 6
+      → logLength m (decodeImage c n m b) ≡ suc k → Untold c n m b k
+  pub stale-not-torn : (c n m : ℕ) (b : Bytes) (k : ℕ) → readRefusal c n m b ≡ 0 → verdictAt m (decodeImage c n m b) k ≡ 6
+      → logLength m (decodeImage c n m b) ≡ suc k → (p : Bytes) → ¬ (MayBeTorn k (epochAt (decodeImage c n m b) k) p (part b (entryAt m k) 240))

@@ -1,16 +1,26 @@
--- What document 01 says of reading one image, sentence by sentence, as a claim that the check demands.
-use Prim.Native.Nat.{ℕ, suc, _-_, _<_}
+-- What documents 01 and 02 say of reading one image, sentence by sentence, as a claim that the check demands.
+use Prim.Native.Nat.{ℕ, suc, _-_, _<_, _≤_}
 use mathlib.Core.Path.{_≡_}
-use mathlib.Core.Bool.{true, not, _&&_, _||_}
+use mathlib.Core.Bool.{true, cond, not, _&&_, _||_}
 use lib.Dec.{eqb, leb}
 use Rattle.search.specs.Search.{count}
 use Rattle.slices.specs.Parts.{Bytes, part}
 use Rattle.record.specs.Layout.{freshEntry}
 use Rattle.record.specs.Meaning.{good, blank, bad, intact}
+use Rattle.record.specs.Exactly.{IntactFor}
 use Rattle.image.specs.Image.{Image, entryAt, decodeImage}
 use Rattle.image.specs.View.{isBlank, epochAt, logLength, readRefusal}
 use Rattle.image.specs.Verdict.{verdictAt}
 use Rattle.image.specs.Read.{hasPayload, payloadOf}
+
+-- 02's stale (Two): the record is good, and the entry is intact for that slot with another epoch
+pub record Stale (i : Image) (k : ℕ) : Type 0 where
+  pub recorded : ℕ
+  pub written : ℕ
+  pub payload : Bytes
+  pub good-record : i .records k ≡ good recorded
+  pub intact-entry : i .entries k ≡ intact written payload
+  pub other-epoch : ¬ (written ≡ recorded)
 
 -- of bytes b, whose image is i, with a log of so many slots
 pub record Reading (c n m : ℕ) (b : Bytes) (i : Image) (len : ℕ) : Type 0 where
@@ -23,9 +33,17 @@ pub record Reading (c n m : ℕ) (b : Bytes) (i : Image) (len : ℕ) : Type 0 wh
   -- 1: a good record beside an intact entry of its epoch; 2: a bad record beside an intact entry
   pub whole : (k e : ℕ) (p : Bytes) → i .records k ≡ good e → i .entries k ≡ intact e p → verdictAt m i k ≡ 1
   pub record-lost : (k e : ℕ) (z p : Bytes) → i .records k ≡ bad z → i .entries k ≡ intact e p → verdictAt m i k ≡ 2
-  -- 3: a good record whose entry is not intact with that epoch; 4: as 3, at the last used slot
-  pub damaged : (k e : ℕ) → i .records k ≡ good e → ((p : Bytes) → ¬ (i .entries k ≡ intact e p)) → ¬ (suc k ≡ len) → verdictAt m i k ≡ 3
-  pub ambiguous : (k e : ℕ) → i .records k ≡ good e → ((p : Bytes) → ¬ (i .entries k ≡ intact e p)) → suc k ≡ len → verdictAt m i k ≡ 4
+  -- 6: stale, and nothing else; at the last used slot too
+  pub stale : (k : ℕ) → Stale i k → verdictAt m i k ≡ 6
+  pub stale-only : (k : ℕ) → verdictAt m i k ≡ 6 → Stale i k
+  -- 3: a good record whose entry is not intact at all; 4: as 3, at the last used slot
+  pub damaged : (k e : ℕ) → i .records k ≡ good e → ((f : ℕ) (p : Bytes) → ¬ (i .entries k ≡ intact f p)) → ¬ (suc k ≡ len) → verdictAt m i k ≡ 3
+  pub ambiguous : (k e : ℕ) → i .records k ≡ good e → ((f : ℕ) (p : Bytes) → ¬ (i .entries k ≡ intact f p)) → suc k ≡ len → verdictAt m i k ≡ 4
+  pub damaged-only : (k f : ℕ) (p : Bytes) → verdictAt m i k ≡ 3 → ¬ (i .entries k ≡ intact f p)
+  pub ambiguous-only : (k f : ℕ) (p : Bytes) → verdictAt m i k ≡ 4 → ¬ (i .entries k ≡ intact f p)
+  -- an entry that is intact for another slot is noise
+  pub misplaced : (k j e f : ℕ) (p : Bytes) → k < m → j ≤ m → i .records k ≡ good e → IntactFor j f p (part b (entryAt m k) 240) → ¬ (j ≡ suc k)
+      → verdictAt m i k ≡ cond (eqb (suc k) len) 4 3
   -- 5: the first unused slot, if its entry is not all spaces; 0: every other unused slot
   pub unfinished : (k : ℕ) → k < m → k ≡ len → ¬ (part b (entryAt m k) 240 ≡ freshEntry) → verdictAt m i k ≡ 5
   pub unused-fresh : (k : ℕ) → k < m → k ≡ len → part b (entryAt m k) 240 ≡ freshEntry → verdictAt m i k ≡ 0

@@ -16,11 +16,12 @@ use Rattle.planner.specs.Rules.{majority, mayTruncate, isFaulty, isUsed,
 use Rattle.planner.specs.Plan.{viewsIn}
 
 pub record AskingClaim : Type 0 where
-  -- verdicts 3 and 4 together are called faulty; whole are 1 and 2; used are 1 to 4
-  pub faulty : (m : ℕ) (i : Image) (k : ℕ) → isFaulty (conditionAt i k) ≡ (eqb (verdictAt m i k) 3 || eqb (verdictAt m i k) 4)
+  -- verdicts 3 and 4 together are called faulty, and 6 with them (02, Two); whole are 1 and 2; used are 1 to 4, and 6
+  pub faulty : (m : ℕ) (i : Image) (k : ℕ)
+      → isFaulty (conditionAt i k) ≡ (eqb (verdictAt m i k) 3 || eqb (verdictAt m i k) 4 || eqb (verdictAt m i k) 6)
   pub whole : (m : ℕ) (i : Image) (k : ℕ) → isWhole (conditionAt i k) ≡ (eqb (verdictAt m i k) 1 || eqb (verdictAt m i k) 2)
   pub used : (m : ℕ) (i : Image) (k : ℕ) → imageRefusal m i ≡ 0 → k < m
-      → isUsed (conditionAt i k) ≡ (leb 1 (verdictAt m i k) && leb (verdictAt m i k) 4)
+      → isUsed (conditionAt i k) ≡ (leb 1 (verdictAt m i k) && leb (verdictAt m i k) 4 || eqb (verdictAt m i k) 6)
   -- a present replica whose own image is refused (1 to 7) is unreadable
   pub readable : (n m leader present : ℕ) (b : Bytes) (c : ℕ) → isSize n ≡ true → isSlots m ≡ true → length b ≡ imageAt m n → c < n
       → viewsIn (settingOf n m leader present) b c .readable ≡ has present c && eqb (readRefusal (suc c) n m (imagePart m b c)) 0

@@ -16,7 +16,7 @@ majority n = n / 2 + 1
 unfoldable pub mayTruncate : ℕ → ℕ → Bool
 mayTruncate n d = ltb (n - d) (majority n)
 
--- 01's faulty: verdicts 3 and 4
+-- 01's faulty: verdicts 3 and 4, and 02's 6 (Two)
 unfoldable pub isFaulty : Condition → Bool
 isFaulty a = eqb (conditionNumber a) 3
 

@@ -6,9 +6,10 @@ ghost use lib.ListN.{length, getD, take};
 ghost use Rattle.search.specs.Search.{listed};
 ghost use Rattle.slices.specs.Parts.{part};
 ghost use Rattle.record.specs.Layout.{entrySize};
-ghost use Rattle.record.specs.Meaning.{entryPayload};
+ghost use Rattle.record.specs.Meaning.{Entry, entryPayload};
+ghost use Rattle.record.specs.Judged.{entryAnswer};
 ghost use Rattle.image.specs.Image.{Image, imageSize, entryAt, decodeImage};
-ghost use Rattle.image.specs.View.{Condition, conditionAt};
+ghost use Rattle.image.specs.View.{Condition, Faulty, conditionAt};
 ghost use Rattle.image.specs.View.{conditionNumber};
 ghost use Rattle.image.specs.Seen.{conditionsOf};
 ghost use Rattle.image.specs.Verdict.{isFresh, verdictOf};
@@ -46,20 +47,36 @@ fn is_unfinished(image: &[u8], m: usize, used: usize) -> bool
     !copy::all_bytes(&image[a..e], b' ')
 }
 
-// The verdict of slot k of a log of so many used slots.
-fn verdict(condition: u8, k: usize, used: usize, unfinished: bool) -> u8
+// The verdict of slot k whose record is good and whose entry is not intact with its epoch: stale, if the entry is intact all the same.
+fn faulty_verdict(entry: EntryState, k: usize, used: usize) -> u8
     requires { ⌜ k < 64 ⌝ }
-    ensures { λ r. ⌜ ((a : Condition) (fresh : Bool) → condition ≡ conditionNumber a → (k ≡ used → unfinished ≡ not fresh)
-        → r ≡ verdictOf used k a fresh) ⌝ }
+    ensures { λ r. ⌜ ((x : Entry) → entry ≡ entryAnswer x → r ≡ verdictOf used k Faulty x) ⌝ }
+{
+    let EntryState::Intact {
+        epoch: _epoch,
+        size: _size,
+    } = entry
+    else {
+        if k + 1 == used {
+            return 4;
+        }
+        return 3;
+    };
+    6
+}
+
+// The verdict of slot k of a log of so many used slots. Only a faulty slot's entry is judged again.
+fn verdict(image: &[u8], m: usize, condition: u8, k: usize, used: usize, unfinished: bool) -> u8
+    requires { ⌜ (m ≤ 64) × (k < m) × (length (now image) ≡ imageSize m) ⌝ }
+    ensures { λ r. ⌜ ((c n : ℕ) (a : Condition) → condition ≡ conditionNumber a
+        → (k ≡ used → unfinished ≡ not (isFresh (decodeImage c n m (now (image .entry)) .entries k)))
+        → r ≡ verdictOf used k a (decodeImage c n m (now (image .entry)) .entries k)) ⌝ }
 {
     if condition == condition::LOST {
         return 0;
     }
     if condition == condition::FAULTY {
-        if k + 1 == used {
-            return 4;
-        }
-        return 3;
+        return faulty_verdict(entry_state(image, m, k), k, used);
     }
     if condition == condition::UNUSED {
         if k != used {
@@ -86,14 +103,21 @@ fn fill_epochs(seen: &[u32; MAX_SLOTS], epochs: &mut [u32])
 }
 
 // Gives the caller the verdicts of its slots.
-fn fill_verdicts(conditions: &[u8; MAX_SLOTS], used: usize, unfinished: bool, verdicts: &mut [u8])
-    requires { ⌜ length (now verdicts) ≤ 64 ⌝ }
-    ensures { λ _. ⌜ ((i : Image) → Marked (length (now (verdicts .entry))) i used (now (conditions .entry)) unfinished
-        → now (verdicts .exit) ≡ verdictsOf (length (now (verdicts .entry))) i) ⌝ }
+fn fill_verdicts(
+    image: &[u8],
+    m: usize,
+    conditions: &[u8; MAX_SLOTS],
+    used: usize,
+    unfinished: bool,
+    verdicts: &mut [u8],
+)
+    requires { ⌜ (m ≤ 64) × (length (now image) ≡ imageSize m) × (length (now verdicts) ≡ m) ⌝ }
+    ensures { λ _. ⌜ ((c n : ℕ) → Marked m (decodeImage c n m (now (image .entry))) used (now (conditions .entry)) unfinished
+        → now (verdicts .exit) ≡ verdictsOf m (decodeImage c n m (now (image .entry)))) ⌝ }
 {
     let mut k: usize = 0;
-    while k < verdicts.len() {
-        verdicts[k] = verdict(conditions[k], k, used, unfinished);
+    while k < m {
+        verdicts[k] = verdict(image, m, conditions[k], k, used, unfinished);
         k += 1;
     }
 }
@@ -128,7 +152,7 @@ pub fn read_image(
     let seen = view.epochs;
     let unfinished = is_unfinished(image, m, used);
     fill_epochs(&seen, epochs);
-    fill_verdicts(&conditions, used, unfinished, verdicts);
+    fill_verdicts(image, m, &conditions, used, unfinished, verdicts);
     ReadAnswer::Length(used)
 }
 

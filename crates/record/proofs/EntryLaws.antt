@@ -44,6 +44,9 @@ module _ (e k : ℕ) (p : Bytes) where
   unfolding entryEpoch
   entry-epoch h = rw (entry-sealed, append-assoc, append-assoc) (column-at [] _ 11 e 0 refl h)
 
+  pub entry-index : k < 10 ^ 11 → valueOf (part (entryBytes e k p) 11 11) ≡ k
+  entry-index h = rw (entry-sealed, append-assoc, append-assoc, append-assoc (column 11 k)) (column-at (column 11 e) _ 11 k 11 (length-column 11 e) h)
+
   pub entry-length : length p ≤ 200 → valueOf (part (entryBytes e k p) 22 4) ≡ length p
   entry-length h =
       rw (entry-sealed, append-assoc, ← append-assoc (column 11 e) (column 11 k) (column 4 (length p)), append-assoc (column 11 e ++ column 11 k))
@@ -100,6 +103,11 @@ module _ (k e : ℕ) (p b : Bytes) (i : IntactFor k e p b) where
   intact-test : isIntact k (entryEpoch b) (entryPayload b) b ≡ true
   unfolding isIntact
   intact-test = rw (intact-epoch, intact-payload, i .epoch, le-leb (length p) 200 (i .short)) (same-eq b (entryBytes e k p) (i .bytes))
+
+-- the same bytes are intact for one index alone
+pub one-index : (j k e f : ℕ) (p q b : Bytes) → j < 10 ^ 11 → k < 10 ^ 11 → IntactFor j e p b → IntactFor k f q b → j ≡ k
+one-index j k e f p q b h l x y =
+    sym (entry-index e j p h) ∙ ap (λ (z : Bytes). valueOf (part z 11 11)) (sym (x .bytes) ∙ y .bytes) ∙ entry-index f k q l
 
 -- the epoch of a fresh entry would be 0
 pub fresh-not-intact : (k e : ℕ) (p : Bytes) → ¬ (IntactFor k e p freshEntry)

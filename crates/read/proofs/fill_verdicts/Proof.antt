@@ -1,9 +1,9 @@
 -- `fill_verdicts` fills from the front.
-use Prim.Native.Nat.{_-_, _≤_}
+use Prim.Native.Nat.{ℕ, _-_, _≤_}
 use mathlib.Core.Path.{_≡_}
 use lib.ListN.{length, take}
 use Rattle.search.specs.Search.{listed}
-use Rattle.image.specs.Image.{Image}
+use Rattle.image.specs.Image.{decodeImage}
 use Rattle.image.specs.Verdict.{verdictAt}
 use Rattle.image.specs.Scan.{Marked}
 use Rattle.image.proofs.SlotLaws.{list-start}
@@ -14,13 +14,13 @@ use Rattle.read.proofs.fill_verdicts.Statement.{statement}
 use Rattle.read.proofs.fill_verdicts.Tie as tie
 
 abbrev Inv-loop : tie.InvT-loop
-Inv-loop conditions used unfinished verdicts₀ k₀ verdicts k = (k ≤ length verdicts₀) × (length verdicts ≡ length verdicts₀) × ((i : Image) → Marked (length verdicts₀) i used conditions unfinished → take k verdicts ≡ listed k (verdictAt (length verdicts₀) i))
+Inv-loop image m conditions used unfinished verdicts₀ k₀ verdicts k = (k ≤ m) × (length verdicts ≡ length verdicts₀) × ((c n : ℕ) → Marked m (decodeImage c n m image) used conditions unfinished → take k verdicts ≡ listed k (verdictAt m (decodeImage c n m image)))
 
 abbrev μ-loop : tie.MeasureT-loop
-μ-loop conditions used unfinished verdicts₀ k₀ verdicts k = length verdicts₀ - k
+μ-loop image m conditions used unfinished verdicts₀ k₀ verdicts k = m - k
 
 loop-holds : tie.Need-loop-holds Inv-loop μ-loop
-loop-holds c = (search needs, search needs, λ i s. list-start _)
+loop-holds c = (search needs, search needs, λ i n s. list-start _)
 
 element-copy-out-verdict : tie.Need-element-copy-out-verdict Inv-loop μ-loop
 element-copy-out-verdict c = search needs
@@ -38,13 +38,13 @@ loop-less : tie.Need-loop-less Inv-loop μ-loop
 loop-less c = search needs
 
 loop-again : tie.Need-loop-again Inv-loop μ-loop
-loop-again c = (search needs, search needs, λ i. verdicts-more _ _ _ _ _ _ _ _ (omega arith) (omega arith) (c .verdict .ensures) (c .before .before .before .loop .inv .2 i))
+loop-again c = (search needs, search needs, λ i n. verdicts-more _ _ _ _ _ _ _ _ (omega arith) (omega arith) (c .verdict .ensures i n) (c .before .before .before .loop .inv .2 i n))
 
 same-length : tie.Need-same-length Inv-loop μ-loop
 same-length c = search needs
 
 returns : tie.Need-returns Inv-loop μ-loop
-returns c = λ i s. verdicts-end _ _ _ _ (omega arith) (omega arith) (c .before .loop .inv .2 i s)
+returns c = λ i n s. verdicts-end _ _ _ _ (omega arith) (omega arith) (c .before .loop .inv .2 i n s)
 
 pub fill-verdicts-spec : {M : Type 1} → statement M
 fill-verdicts-spec =

@@ -25,7 +25,7 @@ fill-epochs-requires : tie.Need-fill-epochs-requires
 fill-epochs-requires c κs = omega (arith, slots-high _ (opened-slots _ _ _ _ _ (c .before .before .before .before .before .before .before .before .open-image .ensures .0) (c .before .before .before .before .before .before .before .if1 .left)), c .before .before .before .before .before .before .if2 .left)
 
 fill-verdicts-requires : tie.Need-fill-verdicts-requires
-fill-verdicts-requires c κs = omega (arith, slots-high _ (opened-slots _ _ _ _ _ (c .before .before .before .before .before .before .before .before .before .before .before .before .before .open-image .ensures .0) (c .before .before .before .before .before .before .before .before .before .before .before .before .if1 .left)), c .before .before .before .before .before .before .before .before .before .before .if3 .left)
+fill-verdicts-requires c κs = (slots-high _ (opened-slots _ _ _ _ _ (c .before .before .before .before .before .before .before .before .before .before .before .before .before .open-image .ensures .0) (c .before .before .before .before .before .before .before .before .before .before .before .before .if1 .left)), opened-size _ _ _ _ _ (c .before .before .before .before .before .before .before .before .before .before .before .before .before .open-image .ensures .0) (c .before .before .before .before .before .before .before .before .before .before .before .before .if1 .left), c .before .before .before .before .before .before .before .before .before .before .if3 .left)
 
 same-length : tie.Need-same-length
 same-length c = search needs
@@ -34,7 +34,7 @@ same-length-2 : tie.Need-same-length-2
 same-length-2 c = search needs
 
 returns-4 : tie.Need-returns-4
-returns-4 c = read-done (lent-none _ _ _ _ _ _ _ (c .before .before .before .before .before .before .before .before .before .before .before .before .before .before .before .before .open-image .ensures .0) (c .before .before .before .before .before .before .before .before .before .before .before .before .before .before .before .if1 .left) (c .before .before .before .before .before .before .before .before .before .before .before .before .before .before .if2 .left) (c .before .before .before .before .before .before .before .before .before .before .before .before .before .if3 .left)) _ _ _ _ _ _ _ _ ((c .before .before .before .before .before .before .before .before .before .before .before .before .before .before .before .before .open-image .ensures .1 (c .before .before .before .before .before .before .before .before .before .before .before .before .before .before .before .if1 .left)) .length-is) (seen-epochs _ _ _ _ _ (c .before .before .before .before .before .before .before .before .before .before .before .before .before .before .before .before .open-image .ensures .1 (c .before .before .before .before .before .before .before .before .before .before .before .before .before .before .before .if1 .left)) _ (c .before .before .before .before .before .before .before .before .before .before .before .before .before .before .if2 .left) (c .before .before .before .before .before .before .before .fill-epochs .ensures)) (seen-verdicts _ _ _ _ _ (c .before .before .before .before .before .before .before .before .before .before .before .before .before .before .before .before .open-image .ensures .1 (c .before .before .before .before .before .before .before .before .before .before .before .before .before .before .before .if1 .left)) _ _ (c .before .before .before .before .before .before .before .before .before .before .before .before .before .if3 .left) (c .before .before .before .before .before .before .before .before .before .before .is-unfinished .ensures _ _) (c .before .before .fill-verdicts .ensures))
+returns-4 c = read-done (lent-none _ _ _ _ _ _ _ (c .before .before .before .before .before .before .before .before .before .before .before .before .before .before .before .before .open-image .ensures .0) (c .before .before .before .before .before .before .before .before .before .before .before .before .before .before .before .if1 .left) (c .before .before .before .before .before .before .before .before .before .before .before .before .before .before .if2 .left) (c .before .before .before .before .before .before .before .before .before .before .before .before .before .if3 .left)) _ _ _ _ _ _ _ _ ((c .before .before .before .before .before .before .before .before .before .before .before .before .before .before .before .before .open-image .ensures .1 (c .before .before .before .before .before .before .before .before .before .before .before .before .before .before .before .if1 .left)) .length-is) (seen-epochs _ _ _ _ _ (c .before .before .before .before .before .before .before .before .before .before .before .before .before .before .before .before .open-image .ensures .1 (c .before .before .before .before .before .before .before .before .before .before .before .before .before .before .before .if1 .left)) _ (c .before .before .before .before .before .before .before .before .before .before .before .before .before .before .if2 .left) (c .before .before .before .before .before .before .before .fill-epochs .ensures)) (seen-verdicts _ _ _ _ _ (c .before .before .before .before .before .before .before .before .before .before .before .before .before .before .before .before .open-image .ensures .1 (c .before .before .before .before .before .before .before .before .before .before .before .before .before .before .before .if1 .left)) _ (c .before .before .before .before .before .before .before .before .before .before .is-unfinished .ensures _ _) (c .before .before .fill-verdicts .ensures _ _))
 
 pub read-image-spec : {M : Type 1} → statement M
 read-image-spec =
