@@ -1,7 +1,7 @@
 -- Reading one image, in the sentences of documents 01 and 02.
 use Prim.Native.Nat.{ℕ, suc, _-_, _≤_, _<_}
 use mathlib.Core.Path.{_≡_, refl, sym, ap, _∙_}
-use mathlib.Core.Bool.{Bool, true, false, cond, not, _&&_}
+use mathlib.Core.Bool.{Bool, true, false, cond, _&&_, _||_}
 use native.Mathlib.Omega.{arith}
 use lib.Dec.{eqb, leb}
 use lib.ListN.{length}
@@ -69,6 +69,18 @@ module _ (m : ℕ) (i : Image) (k : ℕ) where
       go : (x : Entry) → i .entries k ≡ x → verdictAt m i k ≡ cond (eqb (suc k) (logLength m i)) 4 3
       go (intact d p) q = absurd (f d p q)
       go (broken z) q = verdict-noise m i k z (good-other e r (f e)) q
+
+  stays-or-stale : (e : ℕ) → i .records k ≡ good e → ((p : Bytes) → ¬ (i .entries k ≡ intact e p))
+      → (eqb (verdictAt m i k) 6 || eqb (verdictAt m i k) (cond (eqb (suc k) (logLength m i)) 4 3)) ≡ true
+  stays-or-stale e r f = go (i .entries k) refl
+    where
+      same-either : (t : Bool) → (eqb (cond t 4 3) 6 || eqb (cond t 4 3) (cond t 4 3)) ≡ true
+      same-either true = refl
+      same-either false = refl
+
+      go : (x : Entry) → i .entries k ≡ x → (eqb (verdictAt m i k) 6 || eqb (verdictAt m i k) (cond (eqb (suc k) (logLength m i)) 4 3)) ≡ true
+      go (intact d p) q = rw (verdict-stale m i k d p (good-other e r f) q)
+      go (broken z) q = rw (verdict-noise m i k z (good-other e r f) q) (same-either (eqb (suc k) (logLength m i)))
 
   stale-good : verdictAt m i k ≡ 6 → Stale i k
   unfolding conditionAt
@@ -154,8 +166,9 @@ module _ (c n m : ℕ) (b : Bytes) (ok : readRefusal c n m b ≡ 0) where
     stale-only = stale-good m i;
     damaged = λ k e r f l. good-noise m i k e r f ∙ rw (ne-eqb (suc k) len l);
     ambiguous = λ k e r f l. good-noise m i k e r f ∙ rw (eq-eqb (suc k) len l);
-    damaged-only = λ k f p h. is-noise m i k 3 (omega arith) (omega arith) h f p;
-    ambiguous-only = λ k f p h. is-noise m i k 4 (omega arith) (omega arith) h f p;
+    damaged-only = λ k f p h. is-noise m i k _ (omega arith) (omega arith) h f p;
+    ambiguous-only = λ k f p h. is-noise m i k _ (omega arith) (omega arith) h f p;
+    that-or-six = stays-or-stale m i;
     misplaced = elsewhere;
     unfinished = last-not;
     unused-fresh = last-fresh;

@@ -41,6 +41,9 @@ pub record Reading (c n m : ℕ) (b : Bytes) (i : Image) (len : ℕ) : Type 0 wh
   pub ambiguous : (k e : ℕ) → i .records k ≡ good e → ((f : ℕ) (p : Bytes) → ¬ (i .entries k ≡ intact f p)) → suc k ≡ len → verdictAt m i k ≡ 4
   pub damaged-only : (k f : ℕ) (p : Bytes) → verdictAt m i k ≡ 3 → ¬ (i .entries k ≡ intact f p)
   pub ambiguous-only : (k f : ℕ) (p : Bytes) → verdictAt m i k ≡ 4 → ¬ (i .entries k ≡ intact f p)
+  -- where document 01 had 3, and 4 at the last used slot (an entry that is not intact with its record's epoch), it is that or 6
+  pub that-or-six : (k e : ℕ) → i .records k ≡ good e → ((p : Bytes) → ¬ (i .entries k ≡ intact e p))
+      → (eqb (verdictAt m i k) 6 || eqb (verdictAt m i k) (cond (eqb (suc k) len) 4 3)) ≡ true
   -- an entry that is intact for another slot is noise
   pub misplaced : (k j e f : ℕ) (p : Bytes) → k < m → j ≤ m → i .records k ≡ good e → IntactFor j f p (part b (entryAt m k) 240) → ¬ (j ≡ suc k)
       → verdictAt m i k ≡ cond (eqb (suc k) len) 4 3

@@ -1,4 +1,4 @@
--- Every row of both tables is computed, and what the cards of the second mean.
+-- Every row of the three tables is computed, and what the cards of the second mean.
 use mathlib.Core.Path.{refl}
 use Rattle.search.specs.Search.{lowest, count, sum, oneIf, all, listed, joined}
 use Rattle.slices.specs.Parts.{part}
@@ -12,7 +12,7 @@ use Rattle.image.specs.Image.{imageSize, recordAt, entryAt, decodeImage}
 use Rattle.image.specs.View.{condition, epochOf, conditionAt, epochAt, isBlank, isProper, isLost, logLength, noGap, noneLost, rising, imageRefusal, viewOf, isSize, isReplica, isSlots, callRefusal, readRefusal}
 use Rattle.image.specs.Verdict.{verdictOf, verdictAt, isFresh}
 use Rattle.image.specs.Append.{lastEpoch, appendRefusal}
-use Rattle.image.specs.Read.{isWhole}
+use Rattle.image.specs.Read.{isWhole, hasPayload}
 use Rattle.image.specs.Cluster.{imageAt, imagePart, decode}
 use Rattle.planner.specs.Setting.{settingOf, has, viewsOf}
 use Rattle.planner.specs.Rules.{majority, mayTruncate, isFaulty, isUsed, isTruncate, isWait, answers, agrees, have, dontHave, donor, rule, end, firstWaiting, answer}
@@ -23,11 +23,13 @@ use Rattle.starred.specs.Cards as cards
 use Rattle.starred.specs.Starred.{Starred}
 use Rattle.starred.specs.Sizes as sizes
 use Rattle.starred.specs.Sizes.{Sizes}
+use Rattle.starred.specs.Stale as stale
+use Rattle.starred.specs.Stale.{StalePlaces}
 use Rattle.starred.proofs.SeenLaws.{over, recordOf, entryOf, Seen}
 
-pub computed : Starred × Sizes × Seen
-unfolding lowest count sum oneIf all listed joined part same sumA sumB checksumOf digits column digitStep valueFrom valueOf sealed headerBytes recordBytes blankRecord padded entryBytes freshEntry isEpoch readHeader isGood recordEpoch readRecord isIntact entryEpoch entryPayload readEntry refuse _else_ imageSize recordAt entryAt decodeImage condition epochOf conditionAt epochAt isBlank isProper isLost logLength noGap noneLost rising imageRefusal viewOf isSize isReplica isSlots callRefusal readRefusal verdictOf verdictAt isFresh lastEpoch appendRefusal isWhole imageAt imagePart decode settingOf has viewsOf majority mayTruncate isFaulty isUsed isTruncate isWait answers agrees have dontHave donor rule end firstWaiting answer viewsIn shapeRefusal clusterRefusal lentRefusal planRefusal keptByte ruleByte planByte planBytes refusalOf readyResult acceptedResult callResult cards.noise cards.scratch cards.whole cards.one cards.two cards.faultyOf cards.hasOf cards.lacksOf sizes.cards sizes.planned sizes.answers sizes.bytes over recordOf entryOf
-computed = (starred, by-size, seen)
+pub computed : Starred × Sizes × Seen × StalePlaces
+unfolding lowest count sum oneIf all listed joined part same sumA sumB checksumOf digits column digitStep valueFrom valueOf sealed headerBytes recordBytes blankRecord padded entryBytes freshEntry isEpoch readHeader isGood recordEpoch readRecord isIntact entryEpoch entryPayload readEntry refuse _else_ imageSize recordAt entryAt decodeImage condition epochOf conditionAt epochAt isBlank isProper isLost logLength noGap noneLost rising imageRefusal viewOf isSize isReplica isSlots callRefusal readRefusal verdictOf verdictAt isFresh lastEpoch appendRefusal isWhole hasPayload imageAt imagePart decode settingOf has viewsOf majority mayTruncate isFaulty isUsed isTruncate isWait answers agrees have dontHave donor rule end firstWaiting answer viewsIn shapeRefusal clusterRefusal lentRefusal planRefusal keptByte ruleByte planByte planBytes refusalOf readyResult acceptedResult callResult cards.noise cards.scratch cards.whole cards.one cards.two cards.faultyOf cards.hasOf cards.lacksOf sizes.cards sizes.planned sizes.answers sizes.bytes stale.last stale.before stale.stale stale.planned over recordOf entryOf
+computed = (starred, by-size, seen, stale-places)
   where
     starred : Starred
     starred = record {
@@ -84,4 +86,20 @@ computed = (starred, by-size, seen)
       lacking = refl;
       holders = refl;
       waits = refl;
+    }
+
+    stale-places : StalePlaces
+    stale-places = record {
+      earlier-last = refl;
+      earlier-before = refl;
+      later-last = refl;
+      misplaced-last = refl;
+      misplaced-before = refl;
+      fresh-last = refl;
+      fresh-before = refl;
+      no-payload = refl;
+      three-one = refl;
+      two-two = refl;
+      two-one-one = refl;
+      three-intact = refl;
     }
