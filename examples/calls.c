@@ -90,6 +90,25 @@ static void check_entries(void) {
     CHECK(memcmp(entry + 26, "wire", 4) == 0);
 }
 
+/* Slot 2, the last used one, has a record of epoch 9. Beside it stands an entry of epoch 7 of that slot, then of another slot, then spaces. */
+static void check_stale(const uint8_t *image) {
+    uint8_t other[ROPE_IMAGE_SIZE(M)], verdicts[M] = {77, 77}, has = 77;
+    uint8_t *entry = other + ROPE_ENTRY_AT(M, 2);
+    uint32_t epochs[M] = {77, 77};
+    size_t length = 77, at = 77, size = 77;
+    memcpy(other, image, sizeof other);
+    CHECK(rope_write_entry(entry, ROPE_ENTRY_SIZE, 7, 2, bytes_of("old"), 3) == ROPE_DONE);
+    CHECK(rope_read(other, sizeof other, REPLICA, N, M, epochs, M, verdicts, M, &length) == ROPE_DONE && length == 2);
+    CHECK(epochs[1] == 9 && verdicts[0] == ROPE_INTACT && verdicts[1] == ROPE_STALE);
+    CHECK(rope_has_payload(other, sizeof other, REPLICA, N, M, 2, &has) == ROPE_DONE && has == 0);
+    rope_payload(other, sizeof other, REPLICA, N, M, 2, &at, &size);
+    CHECK(at == 0 && size == 0);
+    CHECK(rope_write_entry(entry, ROPE_ENTRY_SIZE, 9, 1, bytes_of("old"), 3) == ROPE_DONE);
+    CHECK(rope_read(other, sizeof other, REPLICA, N, M, epochs, M, verdicts, M, &length) == ROPE_DONE && verdicts[1] == ROPE_AMBIGUOUS);
+    CHECK(rope_write_fresh_entry(entry, ROPE_ENTRY_SIZE) == ROPE_DONE);
+    CHECK(rope_read(other, sizeof other, REPLICA, N, M, epochs, M, verdicts, M, &length) == ROPE_DONE && verdicts[1] == ROPE_AMBIGUOUS);
+}
+
 static void check_image(void) {
     uint8_t image[ROPE_IMAGE_SIZE(M)], verdicts[M] = {77, 77}, has = 77;
     uint32_t epochs[M] = {77, 77};
@@ -107,6 +126,7 @@ static void check_image(void) {
     CHECK(rope_read(image, sizeof image, REPLICA, N, M, epochs, M, verdicts, M, &length) == ROPE_DONE && length == 2);
     CHECK(epochs[0] == 7 && epochs[1] == 9);
     CHECK(verdicts[0] == ROPE_INTACT && verdicts[1] == ROPE_AMBIGUOUS);
+    check_stale(image);
     rope_payload(image, sizeof image, REPLICA, N, M, 2, &at, &size);
     CHECK(at == 0 && size == 0);
     rope_payload(image, sizeof image, REPLICA, N, M, 1, &at, &size);

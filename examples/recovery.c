@@ -11,7 +11,7 @@ enum { N = 5, M = 6, LEADER = 1 };
 
 static uint8_t cluster[ROPE_CLUSTER_SIZE(N, M)];
 
-static const char *const verdicts_in_words[] = {"unused", "intact", "record lost", "corrupt", "ambiguous", "partial"};
+static const char *const verdicts_in_words[] = {"unused", "intact", "record lost", "corrupt", "ambiguous", "partial", "stale"};
 static const char *const plan_in_words[] = {"unused", "whole", "rewrite the record", "wait", "truncate", "truncated after"};
 static const char *const stores_in_words[] = {"", "entry", "record", "record blanked"};
 

@@ -48,10 +48,10 @@ typedef char rope_needs_64_bit_sizes[sizeof(size_t) == 8 ? 1 : -1];
 /* ---- Version ------------------------------------------------------------------------------------------------------------------ */
 
 /* CHANGELOG.md says what a version promises. */
-#define ROPE_VERSION_MAJOR 3
+#define ROPE_VERSION_MAJOR 4
 #define ROPE_VERSION_MINOR 0
 #define ROPE_VERSION_PATCH 0
-#define ROPE_VERSION "3.0.0"
+#define ROPE_VERSION "4.0.0"
 
 /* ---- Sizes, in bytes ---------------------------------------------------------------------------------------------------------- */
 
@@ -102,14 +102,15 @@ enum rope_refusal {
     ROPE_REFUSED_COMMAND_LINE = 14      /* the printing program alone: its first line is not well formed */
 };
 
-/* What rope_read says of a slot. 3 and 4 together are called faulty. */
+/* What rope_read says of a slot. 3, 4 and 6 together are called faulty: the slot is used and has no payload. */
 enum rope_verdict {
     ROPE_UNUSED = 0,      /* the record is blank */
     ROPE_INTACT = 1,      /* a good record beside an intact entry of its epoch */
     ROPE_RECORD_LOST = 2, /* a bad record beside an intact entry: the slot is whole, its record is to be rewritten */
-    ROPE_CORRUPT = 3,     /* a good record whose entry is not intact with its epoch: damaged */
+    ROPE_CORRUPT = 3,     /* a good record whose entry is not intact: damaged */
     ROPE_AMBIGUOUS = 4,   /* as 3, at the last used slot, where a power failure and damage look alike */
-    ROPE_PARTIAL = 5      /* the first unused slot, if its entry is not all spaces: an append that was not finished, or was cut */
+    ROPE_PARTIAL = 5,     /* the first unused slot, if its entry is not all spaces: an append that was not finished, or was cut */
+    ROPE_STALE = 6        /* a good record beside an intact entry of another epoch, at the last used slot too: its write never arrived */
 };
 
 /* What the plan says of a slot of the leader. From ROPE_PLAN_FETCH + 1 on: fetch the entry from replica byte - ROPE_PLAN_FETCH. */

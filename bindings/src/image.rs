@@ -17,16 +17,18 @@ pub enum Verdict {
     Intact,
     /// 2: a bad record beside an intact entry: the slot is whole, its record is to be rewritten.
     RecordLost,
-    /// 3: a good record whose entry is not intact with its epoch.
+    /// 3: a good record whose entry is not intact.
     Corrupt,
     /// 4: the same at the last used slot, where a power failure and damage look alike.
     Ambiguous,
     /// 5: the first unused slot, if its entry is not all spaces.
     Partial,
+    /// 6: a good record beside an intact entry of another epoch: the write of its entry never arrived.
+    Stale,
 }
 
 impl Verdict {
-    /// The number, 0 to 5, by which C names it.
+    /// The number, 0 to 6, by which C names it.
     pub fn number(self) -> u8 {
         self as u8
     }
@@ -36,9 +38,9 @@ impl Verdict {
         matches!(self, Verdict::Intact | Verdict::RecordLost)
     }
 
-    /// Whether the slot is used and has lost its payload: corrupt or ambiguous.
+    /// Whether the slot is used and has lost its payload: corrupt, ambiguous or stale.
     pub fn is_faulty(self) -> bool {
-        matches!(self, Verdict::Corrupt | Verdict::Ambiguous)
+        matches!(self, Verdict::Corrupt | Verdict::Ambiguous | Verdict::Stale)
     }
 
     fn from_number(number: u8) -> Verdict {
@@ -49,6 +51,7 @@ impl Verdict {
             3 => Verdict::Corrupt,
             4 => Verdict::Ambiguous,
             5 => Verdict::Partial,
+            6 => Verdict::Stale,
             number => no_such("rope_read", number),
         }
     }
@@ -63,6 +66,7 @@ impl fmt::Display for Verdict {
             Verdict::Corrupt => "corrupt",
             Verdict::Ambiguous => "ambiguous",
             Verdict::Partial => "partial",
+            Verdict::Stale => "stale",
         })
     }
 }

@@ -97,6 +97,29 @@ fn an_empty_payload_is_a_payload() {
     }
 }
 
+/// An entry of epoch 1 beside a record of epoch 2: before the last used slot and at it.
+#[test]
+fn an_entry_of_another_epoch_is_stale() {
+    let mut cluster = Cluster::fresh(3, 3);
+    for text in [b"one", b"two"] {
+        cluster.append(&[1], 2, text);
+    }
+    for slot in [1, 2] {
+        let range = cluster.geometry.entry_range(slot);
+        let entry = &mut cluster.image_mut(1)[range];
+        let entry = entry.try_into().expect("it has 240 bytes");
+        pieces::write_entry(entry, 1, slot as u32, b"old").unwrap();
+    }
+    let expected = [Verdict::Stale, Verdict::Stale, Verdict::Unused];
+    assert_eq!(verdicts(&cluster, 1), expected);
+    let (geometry, replica) = (cluster.geometry, cluster.replica(1));
+    for slot in [1, 2] {
+        let image = cluster.image(1);
+        assert_eq!(has_payload(image, geometry, replica, slot), Ok(false));
+        assert_eq!(payload(image, geometry, replica, slot), b"");
+    }
+}
+
 #[test]
 fn verdicts_of_damage() {
     let mut cluster = Cluster::fresh(3, 4);

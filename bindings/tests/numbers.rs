@@ -139,10 +139,11 @@ fn other_numbers() {
         Verdict::Corrupt,
         Verdict::Ambiguous,
         Verdict::Partial,
+        Verdict::Stale,
     ];
-    assert_eq!(verdicts.map(Verdict::number), [0, 1, 2, 3, 4, 5]);
-    let whole = [false, true, true, false, false, false];
-    let faulty = [false, false, false, true, true, false];
+    assert_eq!(verdicts.map(Verdict::number), [0, 1, 2, 3, 4, 5, 6]);
+    let whole = [false, true, true, false, false, false, false];
+    let faulty = [false, false, false, true, true, false, true];
     assert_eq!(verdicts.map(Verdict::is_whole), whole);
     assert_eq!(verdicts.map(Verdict::is_faulty), faulty);
     let kinds = [StoreKind::Entry, StoreKind::Record, StoreKind::BlankRecord];

@@ -1,6 +1,7 @@
 //! The model and the proved code on as many generated cases of each kind as are asked for. The first
 //! difference panics, and so does a thing that has to come up and does not.
 
+mod before;
 pub mod clusters;
 pub mod images;
 pub mod pieces;

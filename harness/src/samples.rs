@@ -32,6 +32,7 @@ pub fn samples() -> Vec<Sample> {
     vec![
         healthy(),
         damaged_entry(),
+        stale_entry(),
         lost_record(),
         unconfirmed_tail(),
         waiting(),
@@ -96,6 +97,19 @@ fn damaged_entry() -> Sample {
     spoil_entry(&mut cluster, 1, 2);
     spoil_entry(&mut cluster, 2, 2);
     sample("damaged-entry", cluster, &[1, 2, 3])
+}
+
+/// From the second reading on the epoch is 2. The leader's card never took the second one: beside its
+/// record stands an entry of epoch 1, of a reading that was cut. It comes from replica 2.
+fn stale_entry() -> Sample {
+    let mut cluster = agreeing(3);
+    for replica in 1..=3 {
+        for slot in [2, 3] {
+            cluster.put(replica, slot, 2, READINGS[slot - 1]);
+        }
+    }
+    cluster.put_entry(1, 2, 1, b"metre 1206, strand loose");
+    sample("stale-entry", cluster, &[1, 2, 3])
 }
 
 /// The leader's second record is overwritten beside its intact entry.

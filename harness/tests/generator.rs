@@ -74,7 +74,7 @@ fn assert_held(agreed: &AgreedCase, logs: &[Result<Log, Refusal>]) {
 
 #[test]
 fn agreed_cases_are_what_recovery_supposes() {
-    let mut verdicts = [0; 6];
+    let mut verdicts = [0; 7];
     let (mut readable, mut headers, mut gaps) = (0, 0, 0);
     let (mut diverging, mut shorter, mut largest) = (0, 0, 0);
     for number in 0..CASES {

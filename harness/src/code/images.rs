@@ -106,6 +106,7 @@ fn verdict(byte: u8) -> Verdict {
         3 => Verdict::Corrupt,
         4 => Verdict::Ambiguous,
         5 => Verdict::Partial,
+        6 => Verdict::Stale,
         byte => panic!("a verdict {byte}"),
     }
 }

@@ -1,6 +1,6 @@
 //! The calls about one image.
 
-use super::one_of;
+use super::{before, one_of};
 use crate::compare::agree;
 use crate::generate::{image_calls, ImageCalls, Rng};
 use crate::model::MAX_SLOTS;
@@ -23,8 +23,23 @@ pub fn compare_read(rng: &mut Rng, calls: &ImageCalls, tally: &mut Tally) {
     let read = agree(rng, &calls.read());
     tally.count("read", read.answer.code());
     if read.answer.code() == 0 {
-        for &verdict in read.bytes("verdicts") {
+        let verdicts = read.bytes("verdicts");
+        for &verdict in verdicts {
             tally.count("verdict", usize::from(verdict));
+        }
+        compare_before(calls, read.number("used") as usize, verdicts, tally);
+    }
+}
+
+/// Only 3 and 4 of document 01 became another verdict: 6, beside an entry that is intact.
+fn compare_before(calls: &ImageCalls, length: usize, verdicts: &[u8], tally: &mut Tally) {
+    for (slot, &verdict) in (1..).zip(verdicts) {
+        let (before, intact) = before::verdict(&calls.image, calls.m, length, slot);
+        if intact && (before == 3 || before == 4) {
+            assert_eq!(verdict, 6);
+            tally.count("became stale", usize::from(before));
+        } else {
+            assert_eq!(verdict, before);
         }
     }
 }
@@ -61,7 +76,8 @@ pub fn images(seed: u64, images: u64) -> Tally {
     let append = [0, 1, 2, 3, 4, 5, 6, 7, 8, 9, 10];
     tally.assert_each("append", &append, some);
     tally.assert_each("format", &[0, 1, 2, 3], some);
-    tally.assert_each("verdict", &[0, 1, 2, 3, 4, 5], some);
+    tally.assert_each("verdict", &[0, 1, 2, 3, 4, 5, 6], some);
+    tally.assert_each("became stale", &[3, 4], some);
     tally.assert_each("payload", &[0, 1], some);
     tally
 }

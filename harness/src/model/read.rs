@@ -18,12 +18,14 @@ pub enum Verdict {
     Intact = 1,
     /// Whole, line lost: a bad record beside an intact entry.
     RecordLost = 2,
-    /// Damaged: a good record whose entry is not intact with that epoch.
+    /// Damaged: a good record whose entry is not intact.
     Corrupt = 3,
     /// Doubtful: the same at the last used slot.
     Ambiguous = 4,
     /// Unfinished: the first unused slot, its entry not all spaces.
     Partial = 5,
+    /// Stale: a good record beside an intact entry of another epoch.
+    Stale = 6,
 }
 
 impl Verdict {
@@ -32,9 +34,9 @@ impl Verdict {
         matches!(self, Verdict::Intact | Verdict::RecordLost)
     }
 
-    /// Verdicts 3 and 4.
+    /// Verdicts 3, 4 and 6.
     pub fn is_faulty(self) -> bool {
-        matches!(self, Verdict::Corrupt | Verdict::Ambiguous)
+        matches!(self, Verdict::Corrupt | Verdict::Ambiguous | Verdict::Stale)
     }
 }
 
@@ -210,9 +212,10 @@ fn verdict(slots: &[SlotState], length: usize, slot: usize) -> Verdict {
         RecordState::Bad => Verdict::RecordLost,
         RecordState::Good(epoch) => match state.entry {
             EntryState::Intact(entry_epoch, _) if entry_epoch == epoch => Verdict::Intact,
+            EntryState::Intact(..) => Verdict::Stale,
             // A crash can only have hit the last one.
-            _ if slot == length => Verdict::Ambiguous,
-            _ => Verdict::Corrupt,
+            EntryState::NotIntact if slot == length => Verdict::Ambiguous,
+            EntryState::NotIntact => Verdict::Corrupt,
         },
     }
 }

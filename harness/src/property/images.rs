@@ -12,7 +12,7 @@ pub type Refusals = [u64; 15];
 pub struct ImageCoverage {
     pub read: Refusals,
     pub append: Refusals,
-    pub verdicts: [u64; 6],
+    pub verdicts: [u64; 7],
 }
 
 /// One generated image.

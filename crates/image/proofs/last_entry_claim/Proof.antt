@@ -6,7 +6,7 @@ use Rattle.image.proofs.last_entry_claim.Tie as tie
 
 returns : tie.Need-returns
 returns z = record {
-  untold = untold;
+  untold = λ c n m b k r v. untold c n m b k r (omega (arith, v));
   torn = torn;
   stale-untold = λ c n m b k r v last. stale-untold c n m b k r v (omega (arith, last));
   stale-not-torn = stale-not-torn;
