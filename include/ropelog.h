@@ -110,7 +110,8 @@ enum rope_verdict {
     ROPE_CORRUPT = 3,     /* a good record whose entry is not intact: damaged */
     ROPE_AMBIGUOUS = 4,   /* as 3, at the last used slot, where a power failure and damage look alike */
     ROPE_PARTIAL = 5,     /* the first unused slot, if its entry is not all spaces: an append that was not finished, or was cut */
-    ROPE_STALE = 6        /* a good record beside an intact entry of another epoch, at the last used slot too: its write never arrived */
+    ROPE_STALE = 6        /* a good record beside an intact entry of another epoch, as a write that never arrived leaves it; at the last
+                             used slot, where this comes before 4, a power failure can leave it too */
 };
 
 /* What the plan says of a slot of the leader. From ROPE_PLAN_FETCH + 1 on: fetch the entry from replica byte - ROPE_PLAN_FETCH. */

@@ -23,7 +23,8 @@ pub enum Verdict {
     Ambiguous,
     /// 5: the first unused slot, if its entry is not all spaces.
     Partial,
-    /// 6: a good record beside an intact entry of another epoch: the write of its entry never arrived.
+    /// 6: a good record beside an intact entry of another epoch, as a write that never arrived leaves
+    /// it; at the last used slot, where this comes before 4, a power failure can leave it too.
     Stale,
 }
 

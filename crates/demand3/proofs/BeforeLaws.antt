@@ -1,14 +1,13 @@
 -- A cluster before the damage, damaged, is one with histories.
-use Prim.Native.Nat.{ℕ, suc, _<_}
+use Prim.Native.Nat.{ℕ, _<_}
 use mathlib.Core.Path.{_≡_, refl}
-use mathlib.Core.Bool.{Bool, true, false, cond, not, _&&_}
+use mathlib.Core.Bool.{Bool, true, false, cond}
 use native.Mathlib.Omega.{arith}
-use lib.Dec.{eqb}
 use Rattle.slices.specs.Parts.{Bytes}
 use Rattle.record.specs.Meaning.{Record, good, blank, Entry, intact}
 use Rattle.image.specs.Image.{Image}
 use Rattle.image.specs.Cluster.{Cluster}
-use Rattle.image.specs.View.{Condition, Unused, Whole, RecordLost, Faulty, Lost, conditionAt, epochOf, epochAt, logLength}
+use Rattle.image.specs.View.{conditionAt, epochOf, epochAt, logLength}
 use Rattle.image.proofs.ViewLaws.{length-le, blank-next}
 use Rattle.image.proofs.VerdictLaws.{is-stored}
 use Rattle.planner.specs.Setting.{Setting}

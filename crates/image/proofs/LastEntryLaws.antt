@@ -1,48 +1,30 @@
--- An image whose last used slot is faulty has two histories: a torn append, and a stored entry that was damaged.
+-- An image whose last used slot is faulty has two histories: an append that the power cut short, and a stored entry that was damaged.
 use Prim.Native.Nat.{ℕ, zero, suc, _+_, _≤_, _<_}
 use mathlib.Core.Path.{_≡_, refl, sym, ap, _∙_}
-use mathlib.Core.Bool.{Bool, true, false, cond, not, _&&_}
 use native.Mathlib.Omega.{arith}
 use native.Mathlib.Nat.{mul-le-mul-left}
-use lib.Dec.{eqb}
 use lib.ListN.{length}
-use borrow.Author.Tests.{eqb-true, eqb-false}
 use Rattle.slices.specs.Parts.{Bytes, part, spliced}
 use Rattle.slices.proofs.PartLaws.{length-part}
 use Rattle.slices.proofs.SpliceLaws.{length-spliced, spliced-twice, spliced-back}
 use Rattle.slices.proofs.NestedLaws.{spliced-comm}
 use Rattle.record.specs.Layout.{recordBytes, blankRecord, entryBytes}
-use Rattle.record.specs.Meaning.{Record, good, blank, bad, Entry, intact, broken}
+use Rattle.record.specs.Meaning.{good, blank, intact}
 use Rattle.record.specs.Exactly.{GoodFor}
 use Rattle.record.proofs.LayoutLaws.{length-blank, length-entry}
 use Rattle.record.proofs.RecordLaws.{good-for, read-blank, epoch-low, epoch-high}
 use Rattle.image.specs.Image.{Image, imageSize, recordAt, entryAt, decodeImage}
 use Rattle.image.specs.SetSlot.{setRecord}
-use Rattle.image.specs.View.{Condition, Unused, Whole, RecordLost, Faulty, Lost, condition, epochOf, conditionAt, epochAt, logLength, readRefusal}
-use Rattle.image.specs.Verdict.{verdictOf, verdictAt}
+use Rattle.image.specs.View.{Faulty, conditionAt, epochAt, logLength, readRefusal}
+use Rattle.image.specs.Verdict.{verdictAt}
 use Rattle.image.specs.Append.{lastEpoch, appendRefusal, stored, appended}
 use Rattle.image.specs.LastEntry.{TwoHistories, Untold, MayBeTorn}
 use Rattle.image.proofs.ViewLaws.{Sound, length-le}
 use Rattle.image.proofs.DecodeLaws.{record-fits, entry-fits, record-there, entry-there, record-spliced}
-use Rattle.image.proofs.VerdictLaws.{is-doubtful, is-stale, is-noise}
+use Rattle.image.proofs.VerdictLaws.{faulty-slot, is-doubtful, is-stale, is-noise}
 use Rattle.image.proofs.StoreLaws.{blanked-length, blanked-sound, record-epoch-other}
 use Rattle.image.proofs.AcceptLaws.{Accepts, readable-size, readable-image, accepts-intro, last-epoch}
 use Rattle.image.proofs.AppendLaws.{readable-still, appended-stored, one-more}
-
--- ---- what a faulty slot says
-
--- a faulty slot's record is good, and its entry not intact with that record's epoch
-faulty-slot : (r : Record) (x : Entry) → condition r x ≡ Faulty → (r ≡ good (epochOf r x)) × ((q : Bytes) → x ≡ intact (epochOf r x) q → ⊥)
-unfolding condition epochOf
-faulty-slot (good e) (intact f p) h = (refl, λ q y. go (eqb e f) refl h (let z : e ≡ f = cc in z))
-  where
-    go : (t : Bool) → eqb e f ≡ t → cond t Whole Faulty ≡ Faulty → e ≡ f → ⊥
-    go true t h z = let w : _≡_ {A = ℕ} 0 1 = cc in omega arith
-    go false t h z = eqb-false e f t z
-faulty-slot (good e) (broken b) h = (refl, λ q y. let z : _≡_ {A = ℕ} 0 1 = cc in omega arith)
-faulty-slot blank x h = absurd (let z : _≡_ {A = ℕ} 0 1 = cc in omega arith)
-faulty-slot (bad b) (intact f p) h = absurd (let z : _≡_ {A = ℕ} 0 1 = cc in omega arith)
-faulty-slot (bad b) (broken d) h = absurd (let z : _≡_ {A = ℕ} 0 1 = cc in omega arith)
 
 -- ---- the bytes, from the image with that slot's record blank
 
@@ -107,9 +89,8 @@ module _ (c n m : ℕ) (b : Bytes) (k : ℕ) (r : readRefusal c n m b ≡ 0) (la
   sound : Sound m i
   sound = readable-image c n m b r
 
-  slot : (i .records k ≡ good e) × ((q : Bytes) → i .entries k ≡ intact e q → ⊥)
-  unfolding epochAt
-  slot = faulty-slot (i .records k) (i .entries k) (unfold conditionAt in faulty)
+  slot : (i .records k ≡ good e) × ((q : Bytes) → ¬ (i .entries k ≡ intact e q))
+  slot = faulty-slot m i k faulty
 
   written : GoodFor (suc k) e (part b (recordAt k) 34)
   written = good-for (suc k) (part b (recordAt k) 34) e (sym (record-there c n m b k km) ∙ slot .0)
@@ -170,9 +151,8 @@ module _ (c n m : ℕ) (b : Bytes) (k : ℕ) (r : readRefusal c n m b ≡ 0) whe
   -- an intact entry of another epoch is neither torn nor the one being written
   pub stale-not-torn : verdictAt m (decodeImage c n m b) k ≡ 6 → logLength m (decodeImage c n m b) ≡ suc k → (p : Bytes)
       → ¬ (MayBeTorn k (epochAt (decodeImage c n m b) k) p (part b (entryAt m k) 240))
-  unfolding epochAt conditionAt
   stale-not-torn v last p t =
       let i = decodeImage c n m b in
       let (a, (f, q, x)) = is-stale m i k v in
       let km : k < m = omega (arith, length-le m i, last) in
-      faulty-slot (i .records k) (i .entries k) a .1 q (x ∙ ap (λ (e : ℕ). intact e q) (t f q (sym (entry-there c n m b k km) ∙ x) .0))
+      faulty-slot m i k a .1 q (x ∙ ap (λ (e : ℕ). intact e q) (t f q (sym (entry-there c n m b k km) ∙ x) .0))

@@ -10,7 +10,7 @@ use Rattle.slices.specs.Parts.{Bytes, part}
 use Rattle.slices.specs.Same.{same}
 use Rattle.slices.proofs.SameLaws.{and-off, same-eq, same-differs}
 use Rattle.record.specs.Layout.{freshEntry}
-use Rattle.record.specs.Meaning.{Record, Entry, good, blank, bad, intact, broken}
+use Rattle.record.specs.Meaning.{Entry, good, blank, bad, intact, broken}
 use Rattle.record.specs.Exactly.{IntactFor}
 use Rattle.record.proofs.EntryLaws.{intact-for, intact-payload, one-index}
 use Rattle.image.specs.Image.{Image, entryAt, decodeImage}
@@ -22,21 +22,11 @@ use Rattle.image.proofs.RefusalLaws.{else-zero-l, else-zero-r}
 use Rattle.image.proofs.CallLaws.{slots-high, called-slots}
 use Rattle.image.proofs.DecodeLaws.{entry-there}
 use Rattle.image.proofs.ViewLaws.{Sound, sound-elim, gap-intro, length-count}
-use Rattle.image.proofs.VerdictLaws.{whole-verdict, verdict-whole, verdict-lost, verdict-stale, verdict-noise, verdict-unused, is-stale, is-noise}
+use Rattle.image.proofs.VerdictLaws.{whole-verdict, verdict-whole, verdict-lost, verdict-stale, verdict-noise, verdict-unused, faulty-slot, is-stale, is-noise}
 use Rattle.image.proofs.VerdictSteps.{fresh-is}
 use Rattle.image.proofs.PayloadLaws.{has-below}
 
 -- ---- one slot, of its record and its entry
-
--- a faulty slot beside an intact entry: the record is good, with another epoch
-faulty-beside : (r : Record) (f : ℕ) (p : Bytes) → condition r (intact f p) ≡ Faulty → (e : ℕ) × (r ≡ good e) × ¬ (f ≡ e)
-unfolding condition
-faulty-beside (good e) f p h = (e, refl, λ q. not-both (rw (eq-eqb e f (sym q)) at h))
-  where
-    not-both : ¬ (Whole ≡ Faulty)
-    not-both h = let z : _≡_ {A = ℕ} 0 1 = cc in omega arith
-faulty-beside blank f p h = absurd (let z : _≡_ {A = ℕ} 0 1 = cc in omega arith)
-faulty-beside (bad b) f p h = absurd (let z : _≡_ {A = ℕ} 0 1 = cc in omega arith)
 
 module _ (m : ℕ) (i : Image) (k : ℕ) where
   good-intact : (e : ℕ) (p : Bytes) → i .records k ≡ good e → i .entries k ≡ intact e p → conditionAt i k ≡ Whole
@@ -83,11 +73,17 @@ module _ (m : ℕ) (i : Image) (k : ℕ) where
       go (broken z) q = rw (verdict-noise m i k z (good-other e r f) q) (same-either (eqb (suc k) (logLength m i)))
 
   stale-good : verdictAt m i k ≡ 6 → Stale i k
-  unfolding conditionAt
   stale-good h =
       let (a, (f, p, x)) = is-stale m i k h in
-      let (e, r, d) = faulty-beside (i .records k) f p (rw x at a) in
-      record { recorded = e; written = f; payload = p; good-record = r; intact-entry = x; other-epoch = d }
+      let s = faulty-slot m i k a in
+      record {
+        recorded = epochAt i k;
+        written = f;
+        payload = p;
+        good-record = s .0;
+        intact-entry = x;
+        other-epoch = λ q. s .1 p (x ∙ ap (λ (e : ℕ). intact e p) q);
+      }
 
   blank-unused : i .records k ≡ blank → conditionAt i k ≡ Unused
   unfolding conditionAt condition
@@ -162,14 +158,14 @@ module _ (c n m : ℕ) (b : Bytes) (ok : readRefusal c n m b ≡ 0) where
     epoch-unused = blank-epoch m i;
     whole = λ k e p r x. verdict-whole m i k (good-intact m i k e p r x);
     record-lost = λ k e z p r x. verdict-lost m i k (bad-intact m i k e z p r x);
-    stale = good-stale m i;
+    stale = λ k s. omega (arith, good-stale m i k s);
     stale-only = stale-good m i;
     damaged = λ k e r f l. good-noise m i k e r f ∙ rw (ne-eqb (suc k) len l);
     ambiguous = λ k e r f l. good-noise m i k e r f ∙ rw (eq-eqb (suc k) len l);
     damaged-only = λ k f p h. is-noise m i k _ (omega arith) (omega arith) h f p;
     ambiguous-only = λ k f p h. is-noise m i k _ (omega arith) (omega arith) h f p;
     that-or-six = stays-or-stale m i;
-    misplaced = elsewhere;
+    misplaced = λ k j e f p h l r x d. omega (arith, elsewhere k j e f p h l r x d);
     unfinished = last-not;
     unused-fresh = last-fresh;
     unused-behind = behind;

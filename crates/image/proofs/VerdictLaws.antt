@@ -4,11 +4,11 @@ use mathlib.Core.Path.{_≡_, refl, sym}
 use mathlib.Core.Bool.{Bool, true, false, cond, not, _&&_, _||_}
 use native.Mathlib.Omega.{arith}
 use lib.Dec.{eqb}
-use borrow.Author.Tests.{eqb-true}
+use borrow.Author.Tests.{eqb-true, eqb-false}
 use Rattle.slices.specs.Parts.{Bytes}
-use Rattle.record.specs.Meaning.{Entry, intact, broken}
+use Rattle.record.specs.Meaning.{Record, good, blank, bad, Entry, intact, broken}
 use Rattle.image.specs.Image.{Image}
-use Rattle.image.specs.View.{Condition, Unused, Whole, RecordLost, Faulty, Lost, conditionAt, logLength}
+use Rattle.image.specs.View.{Condition, Unused, Whole, RecordLost, Faulty, Lost, condition, epochOf, conditionAt, epochAt, logLength}
 use Rattle.image.specs.Verdict.{isFresh, verdictOf, verdictAt}
 use Rattle.image.specs.Read.{isWhole}
 
@@ -100,6 +100,20 @@ module _ {len k : ℕ} {x : Entry} where
   noise-is says-unused l u = absurd (omega arith)
   noise-is says-lost l u = absurd (omega arith)
 
+-- ---- a faulty slot
+
+faulty-beside : (r : Record) (x : Entry) → condition r x ≡ Faulty → (r ≡ good (epochOf r x)) × ((q : Bytes) → ¬ (x ≡ intact (epochOf r x) q))
+unfolding condition epochOf
+faulty-beside (good e) (intact f p) h = (refl, λ q y. go (eqb e f) refl h (let z : e ≡ f = cc in z))
+  where
+    go : (t : Bool) → eqb e f ≡ t → cond t Whole Faulty ≡ Faulty → e ≡ f → ⊥
+    go true t h z = let w : _≡_ {A = ℕ} 0 1 = cc in omega arith
+    go false t h z = eqb-false e f t z
+faulty-beside (good e) (broken b) h = (refl, λ q y. let z : _≡_ {A = ℕ} 0 1 = cc in omega arith)
+faulty-beside blank x h = absurd (let z : _≡_ {A = ℕ} 0 1 = cc in omega arith)
+faulty-beside (bad b) (intact f p) h = absurd (let z : _≡_ {A = ℕ} 0 1 = cc in omega arith)
+faulty-beside (bad b) (broken d) h = absurd (let z : _≡_ {A = ℕ} 0 1 = cc in omega arith)
+
 -- ---- an image's slots
 
 module _ (m : ℕ) (i : Image) (k : ℕ) where
@@ -127,6 +141,11 @@ module _ (m : ℕ) (i : Image) (k : ℕ) where
   pub verdict-unused : conditionAt i k ≡ Unused → verdictAt m i k ≡ cond (eqb k (logLength m i) && not (isFresh (i .entries k))) 5 0
   unfolding verdictAt verdictOf
   verdict-unused e = rw e
+
+  -- a faulty slot's record is good, and its entry not intact with that record's epoch
+  pub faulty-slot : conditionAt i k ≡ Faulty → (i .records k ≡ good (epochAt i k)) × ((q : Bytes) → ¬ (i .entries k ≡ intact (epochAt i k) q))
+  unfolding conditionAt epochAt
+  faulty-slot h = faulty-beside (i .records k) (i .entries k) h
 
   pub is-stored : verdictAt m i k ≡ 1 → conditionAt i k ≡ Whole
   is-stored = one-is (verdict-says m i k)

@@ -1,4 +1,4 @@
--- Source document 003, appendix A: whether a crash or damage made the last entry faulty cannot be told from one image.
+-- Source document 003, appendix A: whether a crash or damage made the last entry faulty cannot be told from one image, of verdict 4 or 6.
 use Prim.Native.Nat.{ℕ, suc, _≤_}
 use mathlib.Core.Path.{_≡_}
 use lib.ListN.{length}
@@ -23,22 +23,23 @@ pub record TwoHistories (c n m : ℕ) (a b : Bytes) (k e : ℕ) (p x : Bytes) : 
   -- damage after the append: it was stored, and its entry became x
   pub damage : spliced (appended c n m a e p) (entryAt m k) x ≡ b
 
--- both histories of slot k of b, whatever payload was appended: a is b with that slot's record blank
+-- both histories of slot k of b, whatever payload was appended: a is b with that slot's record blank, so that x stands in a already
 abbrev pub Untold : ℕ → ℕ → ℕ → Bytes → ℕ → Type 0
 Untold c n m b k = (p : Bytes) → length p ≤ 200
     → TwoHistories c n m (spliced b (recordAt k) blankRecord) b k (epochAt (decodeImage c n m b) k) p (part b (entryAt m k) 240)
 
--- x may be what an entry store cut in the middle leaves at slot k: any bytes but no intact entry except the one being written, of e and p (01)
+-- x may be what the store of an entry of e and p at slot k leaves, cut in the middle: any bytes but no intact entry except the one being
+-- written (01)
 abbrev pub MayBeTorn : ℕ → ℕ → Bytes → Bytes → Type 0
 MayBeTorn k e p x = (f : ℕ) (q : Bytes) → readEntry (suc k) x ≡ intact f q → (f ≡ e) × (q ≡ p)
 
 pub record LastEntry : Type 0 where
-  -- every image with verdict 4 has both, and its entry store may have been cut in the middle
+  -- every image with verdict 4 has both, and the append's entry store may have been cut in the middle
   pub untold : (c n m : ℕ) (b : Bytes) (k : ℕ) → readRefusal c n m b ≡ 0 → verdictAt m (decodeImage c n m b) k ≡ 4 → Untold c n m b k
   pub torn : (c n m : ℕ) (b : Bytes) (k : ℕ) → readRefusal c n m b ≡ 0 → verdictAt m (decodeImage c n m b) k ≡ 4
       → (p : Bytes) → MayBeTorn k (epochAt (decodeImage c n m b) k) p (part b (entryAt m k) 240)
-  -- with verdict 6 at the last used slot it has both too (02, Two), but there no entry store was cut in the middle: in the crash nothing of it
-  -- arrived, and the entry is the one that stood there before
+  -- with verdict 6 at the last used slot it has both too (02, Two), but there the append's entry store was not cut in the middle: of the two
+  -- stores its record's alone arrived
   pub stale-untold : (c n m : ℕ) (b : Bytes) (k : ℕ) → readRefusal c n m b ≡ 0 → verdictAt m (decodeImage c n m b) k ≡ 6
       → logLength m (decodeImage c n m b) ≡ suc k → Untold c n m b k
   pub stale-not-torn : (c n m : ℕ) (b : Bytes) (k : ℕ) → readRefusal c n m b ≡ 0 → verdictAt m (decodeImage c n m b) k ≡ 6

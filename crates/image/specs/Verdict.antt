@@ -1,6 +1,6 @@
--- Document 01's verdict bytes: a slot's condition and where it stands.
+-- The verdict bytes of documents 01 and 02: a slot's condition, its entry and where it stands.
 use Prim.Native.Nat.{ℕ, suc}
-use mathlib.Core.Bool.{Bool, true, false, cond, not, _&&_}
+use mathlib.Core.Bool.{Bool, false, cond, not, _&&_}
 use lib.Dec.{eqb}
 use Rattle.slices.specs.Same.{same}
 use Rattle.record.specs.Layout.{freshEntry}

@@ -49,7 +49,7 @@ pub fn refusal_claim()
     ensures { λ _. ⌜ RefusalClaim ⌝ }
 {}
 
-// Length, epochs, verdicts and payloads are what document 01's sentences say, as a theorem.
+// Length, epochs, verdicts and payloads are what the sentences of documents 01 and 02 say, as a theorem.
 pub fn reading_claim()
     ensures { λ _. ⌜ ReadingClaim ⌝ }
 {}
@@ -59,7 +59,8 @@ pub fn append_claim()
     ensures { λ _. ⌜ AppendClaim ⌝ }
 {}
 
-// A torn append and a stored entry that was damaged leave the same image: at the last slot no reader of one image can tell them apart.
+// An append that the power cut short and a stored entry that was damaged leave the same image: at the last slot no reader of one image can
+// tell them apart.
 pub fn last_entry_claim()
     ensures { λ _. ⌜ LastEntry ⌝ }
 {}

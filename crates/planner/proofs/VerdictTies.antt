@@ -1,7 +1,7 @@
 -- The planner's words and the verdicts: faulty are 3, 4 and 6, used 1 to 4 and 6.
 use Prim.Native.Nat.{ℕ}
 use mathlib.Core.Path.{_≡_, refl}
-use mathlib.Core.Bool.{Bool, true, false, _&&_, _||_}
+use mathlib.Core.Bool.{false, _&&_, _||_}
 use lib.Dec.{eqb, leb}
 use Rattle.image.specs.Image.{Image}
 use Rattle.image.specs.View.{Condition, isLost, conditionAt, logLength}

@@ -1,7 +1,7 @@
 // Reading for the caller: epochs and verdicts, and the payload of a slot.
 ghost use Prim.Native.Nat.{ℕ, _+_, _-_, _<_, _≤_};
 ghost use mathlib.Core.Path.{_≡_};
-ghost use mathlib.Core.Bool.{Bool, true, not};
+ghost use mathlib.Core.Bool.{true, not};
 ghost use lib.ListN.{length, getD, take};
 ghost use Rattle.search.specs.Search.{listed};
 ghost use Rattle.slices.specs.Parts.{part};

@@ -2,7 +2,7 @@
 use Prim.Native.Nat.{ℕ}
 use mathlib.Core.Path.{_≡_}
 use mathlib.Core.Bool.{false}
-use mathlib.Core.List.{List, [], _∷_, _++_}
+use mathlib.Core.List.{_++_}
 use Rattle.slices.specs.Parts.{Bytes}
 use Rattle.record.specs.Layout.{headerBytes, recordBytes, freshEntry}
 use Rattle.image.specs.Image.{decodeImage}
