@@ -1,7 +1,7 @@
 -- The answers of reading, case by case.
-use Prim.Native.Nat.{ℕ, _<_}
+use Prim.Native.Nat.{ℕ}
 use mathlib.Core.Path.{_≡_, sym, _∙_}
-use mathlib.Core.Bool.{Bool, true, false, not, _&&_}
+use mathlib.Core.Bool.{true, false, not, _&&_}
 use mathlib.Core.List.{List}
 use lib.Dec.{eqb}
 use lib.ListN.{length, getD}
@@ -14,7 +14,6 @@ use Rattle.image.specs.Refusal.{refuse, unlessRefused}
 use Rattle.image.specs.Image.{Image, imageSize, decodeImage}
 use Rattle.image.specs.View.{epochAt, isSlots, callRefusal, imageRefusal, readRefusal}
 use Rattle.image.specs.Seen.{Seen}
-use Rattle.image.specs.Verdict.{isFresh}
 use Rattle.image.specs.Scan.{Marked}
 use Rattle.image.specs.Read.{lentRefusal, epochsOf, verdictsOf}
 use Rattle.image.specs.Answers.{refused, value, numbered}
@@ -81,9 +80,8 @@ read-done {q} e len used x es es′ y vs vs′ l p v = (rw (e, l), rw (e, p), rw
 
 -- what the view tells is what the buffers are filled from
 module _ (m : ℕ) (i : Image) (used : ℕ) (cs es : List ℕ) (s : Seen m i used cs es) where
-  pub seen-verdicts : (unfinished : Bool) {vs : List ℕ} → (used < m → unfinished ≡ not (isFresh (i .entries used)))
-      → (Marked m i used cs unfinished → vs ≡ verdictsOf m i) → vs ≡ verdictsOf m i
-  seen-verdicts unfinished u f = f (record { length-is = s .length-is; conditions-are = s .conditions-are; unfinished-is = u })
+  pub seen-verdicts : {vs : List ℕ} → (Marked m i used cs → vs ≡ verdictsOf m i) → vs ≡ verdictsOf m i
+  seen-verdicts f = f (record { length-is = s .length-is; conditions-are = s .conditions-are })
 
   pub seen-epochs : (l : ℕ) {es′ : List ℕ} → l ≡ m → es′ ≡ listed l (λ k. getD es k 0) → es′ ≡ epochsOf m i
   unfolding epochsOf

@@ -4,7 +4,6 @@ use mathlib.Core.Path.{_≡_, refl, sym, ap, _∙_}
 use mathlib.Core.Bool.{Bool, true, false, cond, _&&_, _||_}
 use native.Mathlib.Omega.{arith}
 use lib.Dec.{eqb, leb}
-use lib.ListN.{length}
 use borrow.Author.Tests.{eq-eqb, ne-eqb}
 use Rattle.slices.specs.Parts.{Bytes, part}
 use Rattle.slices.specs.Same.{same}
@@ -14,14 +13,15 @@ use Rattle.record.specs.Meaning.{Entry, good, blank, bad, intact, broken}
 use Rattle.record.specs.Exactly.{IntactFor}
 use Rattle.record.proofs.EntryLaws.{intact-for, intact-payload, one-index}
 use Rattle.image.specs.Image.{Image, entryAt, decodeImage}
-use Rattle.image.specs.View.{Unused, Whole, RecordLost, Faulty, condition, epochOf, conditionAt, epochAt, logLength, imageRefusal, readRefusal}
+use Rattle.image.specs.View.{Unused, Whole, RecordLost, Faulty, condition, epochOf, conditionAt, epochAt, logLength, readRefusal}
 use Rattle.image.specs.Verdict.{isFresh, verdictAt}
 use Rattle.image.specs.Read.{hasPayload, payloadOf}
 use Rattle.image.specs.ReadingClaim.{Stale, Reading}
-use Rattle.image.proofs.RefusalLaws.{else-zero-l, else-zero-r}
-use Rattle.image.proofs.CallLaws.{slots-high, called-slots}
+use Rattle.image.proofs.CallLaws.{slots-high}
+use Rattle.image.proofs.ReadLaws.{opened-slots}
+use Rattle.image.proofs.AcceptLaws.{readable-image}
 use Rattle.image.proofs.DecodeLaws.{entry-there}
-use Rattle.image.proofs.ViewLaws.{Sound, sound-elim, gap-intro, length-count}
+use Rattle.image.proofs.ViewLaws.{Sound, gap-intro, length-count}
 use Rattle.image.proofs.VerdictLaws.{whole-verdict, verdict-whole, verdict-lost, verdict-stale, verdict-noise, verdict-unused, faulty-slot, is-stale, is-noise}
 use Rattle.image.proofs.VerdictSteps.{fresh-is}
 use Rattle.image.proofs.PayloadLaws.{has-below}
@@ -111,12 +111,10 @@ module _ (c n m : ℕ) (b : Bytes) (ok : readRefusal c n m b ≡ 0) where
   len = logLength m (decodeImage c n m b)
 
   sound : Sound m i
-  unfolding readRefusal
-  sound = sound-elim m i (else-zero-r _ (imageRefusal m i) ok)
+  sound = readable-image c n m b ok
 
   few : m ≤ 64
-  unfolding readRefusal
-  few = slots-high m (called-slots c n m (length b) (else-zero-l _ (imageRefusal m i) ok))
+  few = slots-high m (opened-slots c n m b 0 (sym ok) refl)
 
   unused : (k : ℕ) → k < m → len ≤ k → conditionAt i k ≡ Unused
   unused k h l = blank-unused m i k (sound .tail k l h)

@@ -1,7 +1,7 @@
 -- The verdicts of an image's slots, as they are worked out and filled in.
 use Prim.Native.Nat.{ℕ, zero, suc, _+_, _-_, _≤_, _<_}
 use mathlib.Core.Path.{_≡_, refl, sym, ap, _∙_}
-use mathlib.Core.Bool.{Bool, true, false, not}
+use mathlib.Core.Bool.{Bool, true, false}
 use mathlib.Core.List.{List}
 use native.Mathlib.Omega.{arith}
 use lib.ListN.{length, take, drop, getD, set, replicate}
@@ -9,7 +9,7 @@ use borrow.Author.Tests.{eq-eqb, ne-eqb}
 use Rattle.search.specs.Search.{listed}
 use Rattle.slices.specs.Parts.{Bytes, part}
 use Rattle.slices.specs.Same.{same}
-use Rattle.slices.proofs.SameLaws.{same-differs}
+use Rattle.slices.proofs.SameLaws.{and-off, same-differs}
 use Rattle.slices.proofs.PartLaws.{length-part}
 use Rattle.slices.proofs.SpliceLaws.{part-lent}
 use Rattle.record.specs.Layout.{freshEntry}
@@ -63,13 +63,13 @@ fresh-is k s = go (readEntry k s) (entry-is k s)
 
 module _ (m : ℕ) (b : Bytes) (k : ℕ) (size : length b ≡ imageSize m) {at : ℕ} (place : at ≡ entryAt m k) where
   pub fresh-judged : {t : Bool} → t ≡ same (take (at + 240 - at) (drop at b)) (replicate (length (take (at + 240 - at) (drop at b))) 32)
-      → (c n : ℕ) → k < m → not t ≡ not (isFresh (decodeImage c n m b .entries k))
+      → (c n : ℕ) → k < m → t ≡ isFresh (decodeImage c n m b .entries k)
   unfolding freshEntry
   fresh-judged e c n h =
       let l : length (part b at 240) ≡ 240 = length-part b at 240 (omega (arith, entry-fits m k h)) in
       let q : same (take (at + 240 - at) (drop at b)) (replicate (length (take (at + 240 - at) (drop at b))) 32) ≡ isFresh (decodeImage c n m b .entries k)
       = rw (part-lent b at 240, l, entry-there c n m b k h, ← place) (sym (fresh-is (suc k) (part b at 240))) in
-      ap not (e ∙ q)
+      e ∙ q
 
 -- ---- the verdict of a slot
 
@@ -93,52 +93,56 @@ module _ (k used : ℕ) (entry : EntryState) where
   faulty-damaged h l (intact f p) q = absurd (apart q h)
   faulty-damaged h l (broken b) q = sym (rw (ne-eqb (suc k) used (λ z. l (omega arith))))
 
-module _ (number k used : ℕ) (unfinished : Bool) (x : Entry) where
+module _ (k used : ℕ) (x : Entry) where
+  -- what is said of the verdict of a slot whose record is blank
+  abbrev UnusedIs : ℕ → Type 0
+  UnusedIs v = v ≡ verdictOf used k Unused x
+
+  pub unused-beyond : ¬ (k ≡ used) → UnusedIs 0
+  unfolding verdictOf
+  unused-beyond l = sym (rw (ne-eqb k used l))
+
+  pub unused-fresh : {t : Bool} → t ≡ isFresh x → t ≡ true → UnusedIs 0
+  unfolding verdictOf
+  unused-fresh e t = sym (rw (← e, t, and-off))
+
+  pub unused-unfinished : {t : Bool} → t ≡ isFresh x → k ≡ used → t ≡ false → UnusedIs 5
+  unfolding verdictOf
+  unused-unfinished e l t = sym (rw (eq-eqb k used l, ← e, t))
+
+module _ (number k used : ℕ) (x : Entry) where
   -- what is said of a slot's verdict when its condition, its entry and the end of the log are known
   abbrev pub VerdictIs : ℕ → Type 0
-  VerdictIs v = (a : Condition) → number ≡ conditionNumber a → (k ≡ used → unfinished ≡ not (isFresh x)) → v ≡ verdictOf used k a x
+  VerdictIs v = (a : Condition) → number ≡ conditionNumber a → v ≡ verdictOf used k a x
+
+  -- it is known which condition the number is
+  pub verdict-by : (v : ℕ) (b : Condition) → number ≡ conditionNumber b → v ≡ verdictOf used k b x → VerdictIs v
+  verdict-by v b h q a e = q ∙ ap (λ (d : Condition). verdictOf used k d x) (named b a (sym h ∙ e))
 
   pub verdict-none : number ≡ 4 → VerdictIs 0
   unfolding verdictOf
-  verdict-none h a e u = sym (rw (named a Lost (sym e ∙ h)))
-
-  pub verdict-faulty : (v : ℕ) → number ≡ 3 → v ≡ verdictOf used k Faulty x → VerdictIs v
-  verdict-faulty v h q a e u = q ∙ sym (rw (named a Faulty (sym e ∙ h)))
-
-  pub verdict-beyond : number ≡ 0 → ¬ (k ≡ used) → VerdictIs 0
-  unfolding verdictOf
-  verdict-beyond h l a e u = sym (rw (named a Unused (sym e ∙ h), ne-eqb k used l))
-
-  pub verdict-unfinished : number ≡ 0 → k ≡ used → unfinished ≡ true → VerdictIs 5
-  unfolding verdictOf
-  verdict-unfinished h l t a e u = sym (rw (named a Unused (sym e ∙ h), eq-eqb k used l, ← u l, t))
-
-  pub verdict-fresh : number ≡ 0 → k ≡ used → unfinished ≡ false → VerdictIs 0
-  unfolding verdictOf
-  verdict-fresh h l t a e u = sym (rw (named a Unused (sym e ∙ h), eq-eqb k used l, ← u l, t))
+  verdict-none h = verdict-by 0 Lost h refl
 
   pub verdict-same : ¬ (number ≡ 4) → ¬ (number ≡ 3) → ¬ (number ≡ 0) → VerdictIs number
   unfolding verdictOf
-  verdict-same h l q Unused e u = absurd (q e)
-  verdict-same h l q Whole e u = e
-  verdict-same h l q RecordLost e u = e
-  verdict-same h l q Faulty e u = absurd (l e)
-  verdict-same h l q Lost e u = absurd (h e)
+  verdict-same h l q Unused e = absurd (q e)
+  verdict-same h l q Whole e = e
+  verdict-same h l q RecordLost e = e
+  verdict-same h l q Faulty e = absurd (l e)
+  verdict-same h l q Lost e = absurd (h e)
 
 -- ---- the slots one after another
 
-module _ (m : ℕ) (i : Image) (used : ℕ) (cs : List ℕ) (unfinished : Bool) (s : Marked m i used cs unfinished) where
-  pub verdict-here : (k v : ℕ) → k < m → VerdictIs (getD cs k 0) k used unfinished (i .entries k) v → v ≡ verdictAt m i k
+module _ (m : ℕ) (i : Image) (used : ℕ) (cs : List ℕ) (s : Marked m i used cs) where
+  pub verdict-here : (k v : ℕ) → k < m → VerdictIs (getD cs k 0) k used (i .entries k) v → v ≡ verdictAt m i k
   unfolding verdictAt conditionsOf
   verdict-here k v h f =
-      f (conditionAt i k) (taken-at m (λ k. conditionNumber (conditionAt i k)) cs (s .conditions-are) k h)
-      (λ e. s .unfinished-is (omega arith) ∙ rw e)
-      ∙ rw (s .length-is)
+      f (conditionAt i k) (taken-at m (λ k. conditionNumber (conditionAt i k)) cs (s .conditions-are) k h) ∙ rw (s .length-is)
 
-pub verdicts-more : (m : ℕ) (i : Image) (used : ℕ) (cs : List ℕ) (unfinished : Bool) (k v : ℕ) (vs : List ℕ) → k < m → k < length vs
-    → VerdictIs (getD cs k 0) k used unfinished (i .entries k) v → (Marked m i used cs unfinished → take k vs ≡ listed k (verdictAt m i))
-    → Marked m i used cs unfinished → take (k + 1) (set vs k v) ≡ listed (k + 1) (verdictAt m i)
-verdicts-more m i used cs unfinished k v vs h l f e s = list-more (verdictAt m i) k v vs l (e s) (verdict-here m i used cs unfinished s k v h f)
+pub verdicts-more : (m : ℕ) (i : Image) (used : ℕ) (cs : List ℕ) (k v : ℕ) (vs : List ℕ) → k < m → k < length vs
+    → VerdictIs (getD cs k 0) k used (i .entries k) v → (Marked m i used cs → take k vs ≡ listed k (verdictAt m i))
+    → Marked m i used cs → take (k + 1) (set vs k v) ≡ listed (k + 1) (verdictAt m i)
+verdicts-more m i used cs k v vs h l f e s = list-more (verdictAt m i) k v vs l (e s) (verdict-here m i used cs s k v h f)
 
 pub verdicts-end : (m : ℕ) (i : Image) (k : ℕ) (vs : List ℕ) → k ≡ m → length vs ≤ k → take k vs ≡ listed k (verdictAt m i) → vs ≡ verdictsOf m i
 unfolding verdictsOf

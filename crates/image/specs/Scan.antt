@@ -1,5 +1,5 @@
 -- For proofs only. What the scan of an image holds and what it works out; Seen.antt says what it tells.
-use Prim.Native.Nat.{ℕ, suc, _<_, _≤_}
+use Prim.Native.Nat.{ℕ, suc, _≤_}
 use mathlib.Core.Path.{_≡_}
 use mathlib.Core.Bool.{Bool, not, _||_}
 use mathlib.Core.List.{List}
@@ -10,7 +10,6 @@ use Rattle.record.specs.Meaning.{Record, Entry}
 use Rattle.image.specs.Refusal.{refuse, _else_}
 use Rattle.image.specs.Image.{Image}
 use Rattle.image.specs.View.{condition, epochOf, epochAt, logLength}
-use Rattle.image.specs.Verdict.{isFresh}
 use Rattle.image.specs.View.{conditionNumber}
 use Rattle.image.specs.Seen.{conditionsOf}
 
@@ -42,11 +41,10 @@ unfoldable pub scanRefusal : ℕ → ℕ → List ℕ → List ℕ → ℕ
 scanRefusal m len conditions epochs =
     refuse 5 (not (noGapIn m len conditions)) else refuse 6 (not (noneLostIn m conditions)) else refuse 7 (not (risingIn m len epochs))
 
--- what is known when the verdicts are filled: the log's length, the conditions, and whether the entry behind the log is not fresh
-pub record Marked (m : ℕ) (i : Image) (used : ℕ) (conditions : List ℕ) (unfinished : Bool) : Type 0 where
+-- what is known when the verdicts are filled: the log's length and the conditions
+pub record Marked (m : ℕ) (i : Image) (used : ℕ) (conditions : List ℕ) : Type 0 where
   pub length-is : used ≡ logLength m i
   pub conditions-are : take m conditions ≡ conditionsOf m i
-  pub unfinished-is : used < m → unfinished ≡ not (isFresh (i .entries used))
 
 -- a span that lies in a buffer of so many bytes
 pub record SpanIn (size start end : ℕ) : Type 0 where

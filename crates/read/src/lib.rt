@@ -1,7 +1,7 @@
 // Reading for the caller: epochs and verdicts, and the payload of a slot.
 ghost use Prim.Native.Nat.{ℕ, _+_, _-_, _<_, _≤_};
 ghost use mathlib.Core.Path.{_≡_};
-ghost use mathlib.Core.Bool.{true, not};
+ghost use mathlib.Core.Bool.{true};
 ghost use lib.ListN.{length, getD, take};
 ghost use Rattle.search.specs.Search.{listed};
 ghost use Rattle.slices.specs.Parts.{part};
@@ -9,7 +9,7 @@ ghost use Rattle.record.specs.Layout.{entrySize};
 ghost use Rattle.record.specs.Meaning.{Entry, entryPayload};
 ghost use Rattle.record.specs.Judged.{entryAnswer};
 ghost use Rattle.image.specs.Image.{Image, imageSize, entryAt, decodeImage};
-ghost use Rattle.image.specs.View.{Condition, Faulty, conditionAt};
+ghost use Rattle.image.specs.View.{Condition, Unused, Faulty, conditionAt};
 ghost use Rattle.image.specs.View.{conditionNumber};
 ghost use Rattle.image.specs.Seen.{conditionsOf};
 ghost use Rattle.image.specs.Verdict.{isFresh, verdictOf};
@@ -34,17 +34,14 @@ pub struct Span {
     pub end: usize,
 }
 
-// Whether there is a slot behind the log whose entry is not all spaces.
-fn is_unfinished(image: &[u8], m: usize, used: usize) -> bool
-    requires { ⌜ (m ≤ 64) × (length (now image) ≡ imageSize m) ⌝ }
-    ensures { λ r. ⌜ ((c n : ℕ) → used < m → r ≡ not (isFresh (decodeImage c n m (now (image .entry)) .entries used))) ⌝ }
+// Whether the entry of slot k is all spaces.
+fn is_fresh(image: &[u8], m: usize, k: usize) -> bool
+    requires { ⌜ (m ≤ 64) × (k < m) × (length (now image) ≡ imageSize m) ⌝ }
+    ensures { λ r. ⌜ ((c n : ℕ) → r ≡ isFresh (decodeImage c n m (now (image .entry)) .entries k)) ⌝ }
 {
-    if m <= used {
-        return false;
-    }
-    let a = entry_at(m, used);
+    let a = entry_at(m, k);
     let e = a + ENTRY_SIZE;
-    !copy::all_bytes(&image[a..e], b' ')
+    copy::all_bytes(&image[a..e], b' ')
 }
 
 // The verdict of slot k whose record is good and whose entry is not intact with its epoch: stale, if the entry is intact all the same.
@@ -65,11 +62,24 @@ fn faulty_verdict(entry: EntryState, k: usize, used: usize) -> u8
     6
 }
 
-// The verdict of slot k of a log of so many used slots. Only a faulty slot's entry is judged again.
-fn verdict(image: &[u8], m: usize, condition: u8, k: usize, used: usize, unfinished: bool) -> u8
+// The verdict of slot k whose record is blank: unfinished, if it is the first such one and its entry is not fresh.
+fn unused_verdict(image: &[u8], m: usize, k: usize, used: usize) -> u8
+    requires { ⌜ (m ≤ 64) × (k < m) × (length (now image) ≡ imageSize m) ⌝ }
+    ensures { λ r. ⌜ ((c n : ℕ) → r ≡ verdictOf used k Unused (decodeImage c n m (now (image .entry)) .entries k)) ⌝ }
+{
+    if k != used {
+        return 0;
+    }
+    if is_fresh(image, m, k) {
+        return 0;
+    }
+    5
+}
+
+// The verdict of slot k of a log of so many used slots. Where its condition does not tell, its entry is looked at.
+fn verdict(image: &[u8], m: usize, condition: u8, k: usize, used: usize) -> u8
     requires { ⌜ (m ≤ 64) × (k < m) × (length (now image) ≡ imageSize m) ⌝ }
     ensures { λ r. ⌜ ((c n : ℕ) (a : Condition) → condition ≡ conditionNumber a
-        → (k ≡ used → unfinished ≡ not (isFresh (decodeImage c n m (now (image .entry)) .entries k)))
         → r ≡ verdictOf used k a (decodeImage c n m (now (image .entry)) .entries k)) ⌝ }
 {
     if condition == condition::LOST {
@@ -79,13 +89,7 @@ fn verdict(image: &[u8], m: usize, condition: u8, k: usize, used: usize, unfinis
         return faulty_verdict(entry_state(image, m, k), k, used);
     }
     if condition == condition::UNUSED {
-        if k != used {
-            return 0;
-        }
-        if unfinished {
-            return 5;
-        }
-        return 0;
+        return unused_verdict(image, m, k, used);
     }
     condition
 }
@@ -108,16 +112,15 @@ fn fill_verdicts(
     m: usize,
     conditions: &[u8; MAX_SLOTS],
     used: usize,
-    unfinished: bool,
     verdicts: &mut [u8],
 )
     requires { ⌜ (m ≤ 64) × (length (now image) ≡ imageSize m) × (length (now verdicts) ≡ m) ⌝ }
-    ensures { λ _. ⌜ ((c n : ℕ) → Marked m (decodeImage c n m (now (image .entry))) used (now (conditions .entry)) unfinished
+    ensures { λ _. ⌜ ((c n : ℕ) → Marked m (decodeImage c n m (now (image .entry))) used (now (conditions .entry))
         → now (verdicts .exit) ≡ verdictsOf m (decodeImage c n m (now (image .entry)))) ⌝ }
 {
     let mut k: usize = 0;
     while k < m {
-        verdicts[k] = verdict(image, m, conditions[k], k, used, unfinished);
+        verdicts[k] = verdict(image, m, conditions[k], k, used);
         k += 1;
     }
 }
@@ -150,9 +153,8 @@ pub fn read_image(
     let used = view.length;
     let conditions = view.conditions;
     let seen = view.epochs;
-    let unfinished = is_unfinished(image, m, used);
     fill_epochs(&seen, epochs);
-    fill_verdicts(image, m, &conditions, used, unfinished, verdicts);
+    fill_verdicts(image, m, &conditions, used, verdicts);
     ReadAnswer::Length(used)
 }
 

@@ -14,10 +14,10 @@ use Rattle.read.proofs.fill_verdicts.Statement.{statement}
 use Rattle.read.proofs.fill_verdicts.Tie as tie
 
 abbrev Inv-loop : tie.InvT-loop
-Inv-loop image m conditions used unfinished verdicts₀ k₀ verdicts k = (k ≤ m) × (length verdicts ≡ length verdicts₀) × ((c n : ℕ) → Marked m (decodeImage c n m image) used conditions unfinished → take k verdicts ≡ listed k (verdictAt m (decodeImage c n m image)))
+Inv-loop image m conditions used verdicts₀ k₀ verdicts k = (k ≤ m) × (length verdicts ≡ length verdicts₀) × ((c n : ℕ) → Marked m (decodeImage c n m image) used conditions → take k verdicts ≡ listed k (verdictAt m (decodeImage c n m image)))
 
 abbrev μ-loop : tie.MeasureT-loop
-μ-loop image m conditions used unfinished verdicts₀ k₀ verdicts k = m - k
+μ-loop image m conditions used verdicts₀ k₀ verdicts k = m - k
 
 loop-holds : tie.Need-loop-holds Inv-loop μ-loop
 loop-holds c = (search needs, search needs, λ i n s. list-start _)
@@ -38,7 +38,7 @@ loop-less : tie.Need-loop-less Inv-loop μ-loop
 loop-less c = search needs
 
 loop-again : tie.Need-loop-again Inv-loop μ-loop
-loop-again c = (search needs, search needs, λ i n. verdicts-more _ _ _ _ _ _ _ _ (omega arith) (omega arith) (c .verdict .ensures i n) (c .before .before .before .loop .inv .2 i n))
+loop-again c = (search needs, search needs, λ i n. verdicts-more _ _ _ _ _ _ _ (omega arith) (omega arith) (c .verdict .ensures i n) (c .before .before .before .loop .inv .2 i n))
 
 same-length : tie.Need-same-length Inv-loop μ-loop
 same-length c = search needs

@@ -18,14 +18,11 @@ returns-2 c = read-refused (lent-epochs _ _ _ _ _ _ _ (c .before .before .open-i
 returns-3 : tie.Need-returns-3
 returns-3 c = read-refused (lent-verdicts _ _ _ _ _ _ _ (c .before .before .before .open-image .ensures .0) (c .before .before .if1 .left) (c .if3 .taken)) (λ e. omega (arith, e)) _ _ _ _ _
 
-is-unfinished-requires : tie.Need-is-unfinished-requires
-is-unfinished-requires c κs = (slots-high _ (opened-slots _ _ _ _ _ (c .before .before .before .before .before .open-image .ensures .0) (c .before .before .before .before .if1 .left)), opened-size _ _ _ _ _ (c .before .before .before .before .before .open-image .ensures .0) (c .before .before .before .before .if1 .left))
-
 fill-epochs-requires : tie.Need-fill-epochs-requires
-fill-epochs-requires c κs = omega (arith, slots-high _ (opened-slots _ _ _ _ _ (c .before .before .before .before .before .before .before .before .open-image .ensures .0) (c .before .before .before .before .before .before .before .if1 .left)), c .before .before .before .before .before .before .if2 .left)
+fill-epochs-requires c κs = omega (arith, slots-high _ (opened-slots _ _ _ _ _ (c .before .before .before .before .before .before .before .open-image .ensures .0) (c .before .before .before .before .before .before .if1 .left)), c .before .before .before .before .before .if2 .left)
 
 fill-verdicts-requires : tie.Need-fill-verdicts-requires
-fill-verdicts-requires c κs = (slots-high _ (opened-slots _ _ _ _ _ (c .before .before .before .before .before .before .before .before .before .before .before .before .before .open-image .ensures .0) (c .before .before .before .before .before .before .before .before .before .before .before .before .if1 .left)), opened-size _ _ _ _ _ (c .before .before .before .before .before .before .before .before .before .before .before .before .before .open-image .ensures .0) (c .before .before .before .before .before .before .before .before .before .before .before .before .if1 .left), c .before .before .before .before .before .before .before .before .before .before .if3 .left)
+fill-verdicts-requires c κs = (slots-high _ (opened-slots _ _ _ _ _ (c .before .before .before .before .before .before .before .before .before .before .before .before .open-image .ensures .0) (c .before .before .before .before .before .before .before .before .before .before .before .if1 .left)), opened-size _ _ _ _ _ (c .before .before .before .before .before .before .before .before .before .before .before .before .open-image .ensures .0) (c .before .before .before .before .before .before .before .before .before .before .before .if1 .left), c .before .before .before .before .before .before .before .before .before .if3 .left)
 
 same-length : tie.Need-same-length
 same-length c = search needs
@@ -34,7 +31,7 @@ same-length-2 : tie.Need-same-length-2
 same-length-2 c = search needs
 
 returns-4 : tie.Need-returns-4
-returns-4 c = read-done (lent-none _ _ _ _ _ _ _ (c .before .before .before .before .before .before .before .before .before .before .before .before .before .before .before .before .open-image .ensures .0) (c .before .before .before .before .before .before .before .before .before .before .before .before .before .before .before .if1 .left) (c .before .before .before .before .before .before .before .before .before .before .before .before .before .before .if2 .left) (c .before .before .before .before .before .before .before .before .before .before .before .before .before .if3 .left)) _ _ _ _ _ _ _ _ ((c .before .before .before .before .before .before .before .before .before .before .before .before .before .before .before .before .open-image .ensures .1 (c .before .before .before .before .before .before .before .before .before .before .before .before .before .before .before .if1 .left)) .length-is) (seen-epochs _ _ _ _ _ (c .before .before .before .before .before .before .before .before .before .before .before .before .before .before .before .before .open-image .ensures .1 (c .before .before .before .before .before .before .before .before .before .before .before .before .before .before .before .if1 .left)) _ (c .before .before .before .before .before .before .before .before .before .before .before .before .before .before .if2 .left) (c .before .before .before .before .before .before .before .fill-epochs .ensures)) (seen-verdicts _ _ _ _ _ (c .before .before .before .before .before .before .before .before .before .before .before .before .before .before .before .before .open-image .ensures .1 (c .before .before .before .before .before .before .before .before .before .before .before .before .before .before .before .if1 .left)) _ (c .before .before .before .before .before .before .before .before .before .before .is-unfinished .ensures _ _) (c .before .before .fill-verdicts .ensures _ _))
+returns-4 c = read-done (lent-none _ _ _ _ _ _ _ (c .before .before .before .before .before .before .before .before .before .before .before .before .before .before .before .open-image .ensures .0) (c .before .before .before .before .before .before .before .before .before .before .before .before .before .before .if1 .left) (c .before .before .before .before .before .before .before .before .before .before .before .before .before .if2 .left) (c .before .before .before .before .before .before .before .before .before .before .before .before .if3 .left)) _ _ _ _ _ _ _ _ ((c .before .before .before .before .before .before .before .before .before .before .before .before .before .before .before .open-image .ensures .1 (c .before .before .before .before .before .before .before .before .before .before .before .before .before .before .if1 .left)) .length-is) (seen-epochs _ _ _ _ _ (c .before .before .before .before .before .before .before .before .before .before .before .before .before .before .before .open-image .ensures .1 (c .before .before .before .before .before .before .before .before .before .before .before .before .before .before .if1 .left)) _ (c .before .before .before .before .before .before .before .before .before .before .before .before .before .if2 .left) (c .before .before .before .before .before .before .before .fill-epochs .ensures)) (seen-verdicts _ _ _ _ _ (c .before .before .before .before .before .before .before .before .before .before .before .before .before .before .before .open-image .ensures .1 (c .before .before .before .before .before .before .before .before .before .before .before .before .before .before .if1 .left)) (c .before .before .fill-verdicts .ensures _ _))
 
 pub read-image-spec : {M : Type 1} → statement M
 read-image-spec =
@@ -44,7 +41,6 @@ read-image-spec =
     returns
     returns-2
     returns-3
-    is-unfinished-requires
     fill-epochs-requires
     fill-verdicts-requires
     same-length

@@ -1,11 +1,12 @@
--- `verdict` goes by the number of the condition; what is faulty, by the entry too.
-use Rattle.image.proofs.VerdictSteps.{verdict-none, verdict-faulty, verdict-beyond, verdict-unfinished, verdict-fresh, verdict-same}
+-- `verdict` goes by the number of the condition; what is faulty or unused, by the entry too.
+use Rattle.image.specs.View.{Unused, Faulty}
+use Rattle.image.proofs.VerdictSteps.{verdict-none, verdict-by, verdict-same}
 use borrow.Author.Needs.{needs}
 use Rattle.read.proofs.verdict.Statement.{statement}
 use Rattle.read.proofs.verdict.Tie as tie
 
 returns : tie.Need-returns
-returns c = λ i n. verdict-none _ _ _ _ _ (c .if1 .taken)
+returns c = λ i n. verdict-none _ _ _ _ (c .if1 .taken)
 
 entry-state-requires : tie.Need-entry-state-requires
 entry-state-requires c κs = search needs
@@ -14,19 +15,16 @@ faulty-verdict-requires : tie.Need-faulty-verdict-requires
 faulty-verdict-requires c κs = search needs
 
 returns-2 : tie.Need-returns-2
-returns-2 c = λ i n. verdict-faulty _ _ _ _ _ _ (c .before .before .if2 .taken) (c .faulty-verdict .ensures _ (c .before .entry-state .ensures i n))
+returns-2 c = λ i n. verdict-by _ _ _ _ _ Faulty (c .before .before .if2 .taken) (c .faulty-verdict .ensures _ (c .before .entry-state .ensures i n))
+
+unused-verdict-requires : tie.Need-unused-verdict-requires
+unused-verdict-requires c κs = search needs
 
 returns-3 : tie.Need-returns-3
-returns-3 c = λ i n. verdict-beyond _ _ _ _ _ (c .before .if3 .taken) (c .if4 .taken)
+returns-3 c = λ i n. verdict-by _ _ _ _ _ Unused (c .before .if3 .taken) (c .unused-verdict .ensures i n)
 
 returns-4 : tie.Need-returns-4
-returns-4 c = λ i n. verdict-unfinished _ _ _ _ _ (c .before .before .if3 .taken) (c .before .if4 .left) (c .if5 .taken)
-
-returns-5 : tie.Need-returns-5
-returns-5 c = λ i n. verdict-fresh _ _ _ _ _ (c .before .before .if3 .taken) (c .before .if4 .left) (c .if5 .left)
-
-returns-6 : tie.Need-returns-6
-returns-6 c = λ i n. verdict-same _ _ _ _ _ (c .before .before .if1 .left) (c .before .if2 .left) (c .if3 .left)
+returns-4 c = λ i n. verdict-same _ _ _ _ (c .before .before .if1 .left) (c .before .if2 .left) (c .if3 .left)
 
 pub verdict-spec : {M : Type 1} → statement M
 verdict-spec =
@@ -36,7 +34,6 @@ verdict-spec =
     entry-state-requires
     faulty-verdict-requires
     returns-2
+    unused-verdict-requires
     returns-3
-    returns-4
-    returns-5
-    returns-6)
+    returns-4)
