@@ -36,6 +36,7 @@ pub fn samples() -> Vec<Sample> {
         lost_record(),
         unconfirmed_tail(),
         waiting(),
+        blank_set(),
         four_replicas(),
         six_replicas(),
         refused_header(),
@@ -81,6 +82,11 @@ fn never_had(cluster: &mut Cluster, replica: usize, slot: usize) {
 /// The leader is replica 1, and the set has a bit for each present replica.
 fn sample(name: &'static str, cluster: Cluster, present: &[usize]) -> Sample {
     let set: u32 = present.iter().map(|replica| 1 << (replica - 1)).sum();
+    sample_of(name, cluster, &set.to_string())
+}
+
+/// A sample with this text in the set's column.
+fn sample_of(name: &'static str, cluster: Cluster, set: &str) -> Sample {
     let mut input = format!("{:>3}{:>3}  1{set:>4}\n", cluster.n, cluster.m).into_bytes();
     input.extend(&cluster.bytes);
     Sample { name, input }
@@ -135,6 +141,19 @@ fn waiting() -> Sample {
     never_had(&mut cluster, 2, 3);
     spoil_entry(&mut cluster, 3, 3);
     sample("waiting", cluster, &[1, 2, 3])
+}
+
+/// Two of three replicas had stored the third reading. The leader's is spoilt, replica 2 has a new card,
+/// and replica 3 never had it. The set is left blank, so that nobody is asked: it waits. With the new
+/// card in the set it would be cut.
+fn blank_set() -> Sample {
+    let mut cluster = agreeing(3);
+    spoil_entry(&mut cluster, 1, 3);
+    for slot in [3, 2, 1] {
+        never_had(&mut cluster, 2, slot);
+    }
+    never_had(&mut cluster, 3, 3);
+    sample_of("blank-set", cluster, "")
 }
 
 /// Two of four replicas never had the leader's third reading, which is spoilt. The fourth is away; it

@@ -222,7 +222,7 @@ fn generated_clusters() {
             );
             command[9..13].fill(b' ');
             let input = input_of(&command, &case.cluster);
-            assert_report(&format!("case {number}, all present"), &input);
+            assert_report(&format!("case {number}, the leader alone"), &input);
         }
     }
     let fetched = (11..=17).map(|byte| format!("byte {byte}"));

@@ -120,6 +120,7 @@ fn the_plans_are_the_named_ones() {
         ("lost-record", "0", "3", &["1", "2", "1"]),
         ("unconfirmed-tail", "0", "3", &["1", "1", "1", "4"]),
         ("waiting", "1", "3", &["1", "1", "3"]),
+        ("blank-set", "1", "3", &["1", "1", "3"]),
         ("four-replicas", "0", "2", &["1", "1", "4"]),
         ("six-replicas", "0", "2", &["1", "1", "4"]),
         ("unreadable-follower", "0", "3", &["13", "1", "1"]),

@@ -1,6 +1,6 @@
 // The command line.
 ghost use mathlib.Core.Path.{_≡_};
-ghost use Prim.Native.Nat.{ℕ, _^_, _-_, _<_};
+ghost use Prim.Native.Nat.{ℕ, _<_};
 ghost use Rattle.report.specs.Command.{commandOf, commandLine, presentOf};
 ghost use mathlib.Core.Bool.{true};
 ghost use Rattle.image.specs.View.{isSize};
@@ -36,7 +36,7 @@ fn command_of(n: ColumnState, m: ColumnState, leading: ColumnState, set: ColumnS
             n: n as usize,
             m: m as usize,
             leading: leading as usize,
-            present: Present::All,
+            present: Present::LeaderAlone,
         },
         ColumnState::Malformed => Command::Malformed,
     }
@@ -59,23 +59,29 @@ pub fn read_command(input: &[u8]) -> Command
     command_of(n, m, leading, set)
 }
 
-// The set of all n replicas.
-fn all_replicas(n: usize) -> u32
+// The set of the leader alone. If no replica has its number the set is empty, and planning refuses that leader.
+fn leader_alone(n: usize, leading: usize) -> u32
     requires { ⌜ n < 32 ⌝ }
-    ensures { λ r. ⌜ r ≡ 2 ^ n - 1 ⌝ }
+    ensures { λ r. ⌜ r ≡ presentOf n leading Present.LeaderAlone ⌝ }
 {
-    (1 << n) - 1
+    if leading < 1 {
+        return 0;
+    }
+    if n < leading {
+        return 0;
+    }
+    1 << (leading - 1)
 }
 
 // The present set as a word. Where n is refused, any word will do.
-pub fn present_word(n: usize, present: Present) -> u32
-    ensures { λ r. ⌜ (isSize n ≡ true → r ≡ presentOf n present) ⌝ }
+pub fn present_word(n: usize, leading: usize, present: Present) -> u32
+    ensures { λ r. ⌜ (isSize n ≡ true → r ≡ presentOf n leading present) ⌝ }
 {
     let Present::Set(word) = present else {
         if 31 < n {
             return 0;
         }
-        return all_replicas(n);
+        return leader_alone(n, leading);
     };
     word
 }

@@ -143,6 +143,6 @@ pub fn report_of(input: &[u8]) -> Report
         n,
         m,
         leading,
-        present_word(n, present),
+        present_word(n, leading, present),
     )
 }

@@ -1,6 +1,7 @@
 -- The ways in which a command line is read.
-use Prim.Native.Nat.{ℕ, _*_, _-_, _%_, _^_, _<_, _≤_}
+use Prim.Native.Nat.{ℕ, pred, _*_, _%_, _^_, _<_, _≤_}
 use mathlib.Core.Path.{_≡_, refl, sym, _∙_}
+use mathlib.Core.Bool.{true, false}
 use mathlib.Core.List.{[], _∷_}
 use native.Mathlib.Omega.{arith}
 use native.Mathlib.Decide.{decLt}
@@ -17,9 +18,10 @@ use Rattle.column.specs.declared.ColumnState.the-variants.{Number, Blank}
 use Rattle.column.specs.declared.ColumnState.the-variants as column
 use Rattle.column.proofs.ColumnState.{the-type}
 use Rattle.column.proofs.StateLaws.{number-only-if}
+use Rattle.image.specs.View.{isReplica}
 use Rattle.report.specs.Command.{numbered, chosen, commandOf, commandLine, presentOf}
 use Rattle.report.specs.declared.Present.{Present}
-use Rattle.report.specs.declared.Present.the-variants.{Set, All}
+use Rattle.report.specs.declared.Present.the-variants.{Set, LeaderAlone}
 use Rattle.report.specs.declared.Command.{Command}
 use Rattle.report.specs.declared.Command.the-variants.{Well, Malformed}
 
@@ -53,9 +55,9 @@ module _ (n m leader set : ColumnState) where
         unfolding commandOf numbered chosen
         with-set h = rw (at-n, at-m, at-leader, h) refl
 
-        pub with-all : set ≡ Blank → Well x y z All ≡ commandOf n m leader set
+        pub with-blank : set ≡ Blank → Well x y z LeaderAlone ≡ commandOf n m leader set
         unfolding commandOf numbered chosen
-        with-all h = rw (at-n, at-m, at-leader, h) refl
+        with-blank h = rw (at-n, at-m, at-leader, h) refl
 
         pub no-set : set ≡ column.Malformed → Malformed ≡ commandOf n m leader set
         unfolding commandOf numbered chosen
@@ -91,15 +93,28 @@ well-long b {n} {m} {leader} {set} e = go (decLt (length b) 14)
 
 -- ---- the present set
 
--- `1 << n`
-pub one-bit : (n : ℕ) → n < 32 → 1 * 2 ^ n % 4294967296 ≡ 2 ^ n
-one-bit n h = shl-exact 1 n 32 (omega arith) (omega arith) ∙ omega arith
+-- `1 << k`
+one-bit : (k : ℕ) → k < 32 → 1 * 2 ^ k % 4294967296 ≡ 2 ^ k
+one-bit k h = shl-exact 1 k 32 (omega arith) (omega arith) ∙ omega arith
 
-module _ (n : ℕ) (p : Present) where
-  pub present-set : {w : ℕ} → p ≡ Set w → w ≡ presentOf n p
+module _ (n leader : ℕ) where
+  -- no replica has that number
+  pub leader-none : isReplica n leader ≡ false → 0 ≡ presentOf n leader LeaderAlone
   unfolding presentOf
-  present-set h = rw h refl
+  leader-none e = rw e refl
 
-  pub present-all : {w : ℕ} → p ≡ All → w ≡ 2 ^ n - 1 → w ≡ presentOf n p
+  pub leader-own : isReplica n leader ≡ true → 2 ^ pred leader ≡ presentOf n leader LeaderAlone
   unfolding presentOf
-  present-all h e = rw h e
+  leader-own e = rw e refl
+
+  -- `1 << (leader - 1)`
+  pub leader-bit : {k : ℕ} → isReplica n leader ≡ true → k ≡ pred leader → k < 32 → 1 * 2 ^ k % 4294967296 ≡ presentOf n leader LeaderAlone
+  leader-bit {k} e p h = one-bit k h ∙ rw p (leader-own e)
+
+  module _ (p : Present) where
+    pub present-set : {w : ℕ} → p ≡ Set w → w ≡ presentOf n leader p
+    unfolding presentOf
+    present-set h = rw h refl
+
+    pub present-blank : {w : ℕ} → p ≡ LeaderAlone → w ≡ presentOf n leader LeaderAlone → w ≡ presentOf n leader p
+    present-blank h e = rw h e

@@ -105,8 +105,8 @@ module _ (b : Bytes) where
     malformed-report e k = rw (le-ltb _ _ h, ← e, k) refl
 
     pub well-report : {c : Command} {n m leader w : ℕ} {set : Present} → c ≡ commandLine b → c ≡ Well n m leader set
-        → (isSize n ≡ true → w ≡ presentOf n set) → clusterReport n m leader w (take (length b - 14) (drop 14 b)) ≡ reportOf b
+        → (isSize n ≡ true → w ≡ presentOf n leader set) → clusterReport n m leader w (take (length b - 14) (drop 14 b)) ≡ reportOf b
     unfolding reportOf commandReport
     well-report {c} {n} {m} {leader} {w} {set} e k f =
         let all : take (length b - 14) (drop 14 b) ≡ drop 14 b = take-all (length b - 14) (drop 14 b) (rw length-drop (omega arith)) in
-        rw (all, le-ltb _ _ h, ← e, k) (any-set n m leader w (presentOf n set) (drop 14 b) f)
+        rw (all, le-ltb _ _ h, ← e, k) (any-set n m leader w (presentOf n leader set) (drop 14 b) f)

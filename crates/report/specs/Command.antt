@@ -1,5 +1,5 @@
 -- Document 01, "The printing program": the command line.
-use Prim.Native.Nat.{ℕ, _^_, _-_}
+use Prim.Native.Nat.{ℕ, pred, _^_}
 use mathlib.Core.Bool.{cond, _&&_}
 use lib.Dec.{eqb, leb}
 use lib.ListN.{length, getD}
@@ -7,6 +7,7 @@ use Rattle.slices.specs.Parts.{Bytes, part}
 use Rattle.column.specs.ColumnState.{columnState}
 use Rattle.column.specs.declared.ColumnState.{ColumnState}
 use Rattle.column.specs.declared.ColumnState.the-variants as column
+use Rattle.image.specs.View.{isReplica}
 use Rattle.report.specs.declared.Present.{Present}
 use Rattle.report.specs.declared.Present.the-variants as present
 use Rattle.report.specs.declared.Command.{Command}
@@ -21,7 +22,7 @@ numbered column.Malformed then = command.Malformed
 -- the set's column, which may be blank
 unfoldable pub chosen : ColumnState → (Present → Command) → Command
 chosen (column.Number w) then = then (present.Set w)
-chosen column.Blank then = then present.All
+chosen column.Blank then = then present.LeaderAlone
 chosen column.Malformed then = command.Malformed
 
 unfoldable pub commandOf : ColumnState → ColumnState → ColumnState → ColumnState → Command
@@ -34,7 +35,7 @@ commandLine b =
     (commandOf (columnState (part b 0 3)) (columnState (part b 3 3)) (columnState (part b 6 3)) (columnState (part b 9 4)))
     command.Malformed
 
--- a blank set means all n replicas
-unfoldable pub presentOf : ℕ → Present → ℕ
-presentOf n (present.Set w) = w
-presentOf n present.All = 2 ^ n - 1
+-- a blank set means the leader alone (02, Ten). It is no replica if its number is not 1 to n, and the set is then empty
+unfoldable pub presentOf : ℕ → ℕ → Present → ℕ
+presentOf n leader (present.Set w) = w
+presentOf n leader present.LeaderAlone = cond (isReplica n leader) (2 ^ pred leader) 0

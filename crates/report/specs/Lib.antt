@@ -2,3 +2,4 @@
 pub mod Command
 pub mod Report
 pub mod Lines
+pub mod SetClaim

@@ -59,7 +59,7 @@ clusterReport n m leader present b =
 
 -- a command line that is not well formed is refused by 14
 unfoldable pub commandReport : Command → Bytes → Bytes
-commandReport (Well n m leader set) b = clusterReport n m leader (presentOf n set) b
+commandReport (Well n m leader set) b = clusterReport n m leader (presentOf n leader set) b
 commandReport Malformed b = refusedLine 14
 
 -- input over 65,536 bytes is refused by 3, before all else

@@ -1,6 +1,7 @@
 //! The printing program, from input bytes to output bytes.
 
 use super::column::{read_column, write_column};
+use super::layout::cluster_len;
 use super::planner::{decide, Answer};
 use super::read::check_counts;
 use super::refusal::Refusal;
@@ -9,7 +10,7 @@ use super::survey::survey;
 const MAX_INPUT: usize = 65_536;
 const COMMAND_LEN: usize = 14;
 
-/// The numbers of the command line. No present word means all replicas.
+/// The numbers of the command line. No present word means the leader alone.
 struct Command {
     n: usize,
     m: usize,
@@ -37,9 +38,10 @@ fn report_plan(input: &[u8]) -> Result<Vec<u8>, Refusal> {
     let command = read_command(input).ok_or(Refusal::CommandLine)?;
     let cluster = &input[COMMAND_LEN..];
     let Command { n, m, leader, .. } = command;
-    // The counts come first, so that all replicas of a wrong n never need a word.
-    check_counts(n, m)?;
-    let present = command.present.unwrap_or((1 << n) - 1);
+    let present = match command.present {
+        Some(word) => word,
+        None => leader_alone(cluster, n, m, leader)?,
+    };
     let survey = survey(cluster, n, m, leader, present)?;
     let decision = decide(&survey);
     let (status, number) = match decision.answer {
@@ -60,6 +62,18 @@ fn report_plan(input: &[u8]) -> Result<Vec<u8>, Refusal> {
         output.push(b'\n');
     }
     Ok(output)
+}
+
+/// The word of the leader alone. A leader that is no replica has none: 12, behind 1, 2 and 3.
+fn leader_alone(cluster: &[u8], n: usize, m: usize, leader: usize) -> Result<u32, Refusal> {
+    check_counts(n, m)?;
+    if cluster.len() != cluster_len(n, m) {
+        return Err(Refusal::BufferLength);
+    }
+    if !(1..=n).contains(&leader) {
+        return Err(Refusal::Leader);
+    }
+    Ok(1 << (leader - 1))
 }
 
 /// Reads the first 14 bytes, or nothing if they are not well formed.

@@ -38,7 +38,7 @@ returns-4 : tie.Need-returns-4
 returns-4 c = law.with-set _ _ _ _ (c .before .before .before .before .before .before .before .before .before .before .n .given .1) (c .before .before .before .before .before .before .before .m .given .1) (c .before .before .before .before .leading .given .1) (c .before .set .given .1)
 
 returns-5 : tie.Need-returns-5
-returns-5 c = law.with-all _ _ _ _ (c .before .before .before .before .before .before .before .before .before .n .given .1) (c .before .before .before .before .before .before .m .given .1) (c .before .before .before .leading .given .1) (c .enum-told .given .1)
+returns-5 c = law.with-blank _ _ _ _ (c .before .before .before .before .before .before .before .before .before .n .given .1) (c .before .before .before .before .before .before .m .given .1) (c .before .before .before .leading .given .1) (c .enum-told .given .1)
 
 returns-6 : tie.Need-returns-6
 returns-6 c = law.no-set _ _ _ _ (c .before .before .before .before .before .before .before .before .before .n .given .1) (c .before .before .before .before .before .before .m .given .1) (c .before .before .before .leading .given .1) (c .enum-told2 .given .1)

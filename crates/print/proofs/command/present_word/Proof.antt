@@ -14,16 +14,16 @@ enum-told c = search needs
 returns : tie.Need-returns
 returns c = λ h. absurd (omega (arith, size-high _ h))
 
-all-replicas-requires : tie.Need-all-replicas-requires
-all-replicas-requires c κs = search needs
+leader-alone-requires : tie.Need-leader-alone-requires
+leader-alone-requires c κs = search needs
 
 returns-2 : tie.Need-returns-2
-returns-2 c = λ h. law.present-all _ _ (c .before .before .enum-told .given .1) (c .all-replicas .ensures)
+returns-2 c = λ h. law.present-blank _ _ _ (c .before .before .enum-told .given .1) (c .leader-alone .ensures)
 
 returns-3 : tie.Need-returns-3
-returns-3 c = λ h. law.present-set _ _ (c .before .present .given .1)
+returns-3 c = λ h. law.present-set _ _ _ (c .before .present .given .1)
 
 pub present-word-spec : {M : Type 1} → statement M
 present-word-spec =
     tie.close
-    (tie.spec enum-known-present enum-told returns all-replicas-requires returns-2 returns-3)
+    (tie.spec enum-known-present enum-told returns leader-alone-requires returns-2 returns-3)

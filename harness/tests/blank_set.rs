@@ -1,0 +1,180 @@
+//! A blank set means the leader alone (document 02, request Ten), printed by the model and by the built
+//! program.
+
+use harness::generate::{agreed_case, arbitrary_case, Case, Cluster};
+use harness::model::report;
+use harness::program;
+use harness::property::case_rng;
+use harness::samples::samples;
+
+const BLANK: &str = "";
+
+/// An input with this text in the set's column.
+fn input(n: usize, m: usize, leader: usize, set: &str, cluster: &[u8]) -> Vec<u8> {
+    let mut input = format!("{n:>3}{m:>3}{leader:>3}{set:>4}\n").into_bytes();
+    input.extend_from_slice(cluster);
+    input
+}
+
+/// What both print.
+fn printed(input: &[u8]) -> String {
+    let model = String::from_utf8(report(input)).unwrap();
+    let command = String::from_utf8_lossy(&input[..input.len().min(13)]);
+    assert_eq!(
+        String::from_utf8(program::report(input)).unwrap(),
+        model,
+        "{command:?}"
+    );
+    model
+}
+
+/// The word in which a replica stands alone.
+fn word_of(replica: usize) -> String {
+    (1u32 << (replica - 1)).to_string()
+}
+
+/// The plan bytes of what is printed.
+fn plan_bytes(printed: &str) -> Vec<u8> {
+    printed
+        .lines()
+        .skip(1)
+        .map(|line| line.split_whitespace().nth(2).unwrap().parse().unwrap())
+        .collect()
+}
+
+#[test]
+fn it_is_printed_as_the_leader_in_full_and_nothing_is_cut() {
+    let (mut plans, mut waiting) = (0, 0);
+    for number in 0..200 {
+        let mut rng = case_rng(31, number);
+        for case in [agreed_case(&mut rng).case, arbitrary_case(&mut rng)] {
+            let Case { n, m, cluster, .. } = case;
+            for leader in 1..=n {
+                let blank = printed(&input(n, m, leader, BLANK, &cluster));
+                assert_eq!(
+                    blank,
+                    printed(&input(n, m, leader, &word_of(leader), &cluster)),
+                    "case {number}, leader {leader}"
+                );
+                if blank.starts_with("refused") {
+                    let refusal = if cluster.len() > 65_522 { 3 } else { 12 };
+                    assert_eq!(blank, format!("refused{refusal:>4}\n"));
+                    continue;
+                }
+                let bytes = plan_bytes(&blank);
+                assert!(bytes.iter().all(|byte| (1..=3).contains(byte)), "{blank}");
+                plans += 1;
+                waiting += usize::from(bytes.contains(&3));
+            }
+        }
+    }
+    assert!(
+        plans > 500 && waiting > 200,
+        "{plans} plans, {waiting} wait"
+    );
+}
+
+#[test]
+fn a_leader_that_is_no_replica_is_12() {
+    for n in 3..=7 {
+        let cluster = Cluster::fresh(n, 1).bytes;
+        // Every number that the column can hold, by the model; the ones at which a shift goes wrong, by both.
+        for leader in 0..=999 {
+            let input = input(n, 1, leader, BLANK, &cluster);
+            let expected = match leader {
+                1..=7 if leader <= n => format!("{n:>4}{leader:>4}   0   0\n"),
+                _ => "refused  12\n".to_string(),
+            };
+            assert_eq!(String::from_utf8(report(&input)).unwrap(), expected);
+            if leader <= 34 || [63, 64, 65, 128, 256, 512, 999].contains(&leader) {
+                assert_eq!(printed(&input), expected);
+            }
+        }
+    }
+}
+
+#[test]
+fn one_two_and_three_come_before() {
+    let cluster = Cluster::fresh(3, 2).bytes;
+    let longer = [&cluster[..], b" "].concat();
+    for leader in [0, 4, 31, 32, 33, 64, 999] {
+        for (n, m, cluster, refusal) in [
+            (2, 0, &cluster[..], 1),
+            (3, 65, &cluster, 1),
+            (2, 2, &cluster, 2),
+            (8, 2, &longer, 2),
+            (999, 2, &cluster, 2),
+            (3, 2, &cluster[1..], 3),
+            (3, 2, &longer, 3),
+            (3, 1, &cluster, 3),
+            (3, 2, &cluster, 12),
+        ] {
+            assert_eq!(
+                printed(&input(n, m, leader, BLANK, cluster)),
+                format!("refused{refusal:>4}\n"),
+                "n {n}, m {m}, leader {leader}"
+            );
+        }
+    }
+}
+
+#[test]
+fn a_set_in_full_finds_11_before_12() {
+    for n in 3..=7 {
+        let cluster = Cluster::fresh(n, 1).bytes;
+        for leader in [0, n + 1, 32, 33, 999] {
+            for (set, refusal) in [
+                (1 << n, 11),
+                ((1 << n) + 1, 11),
+                (9999, 11),
+                ((1 << n) - 1, 12),
+                (0, 12),
+            ] {
+                assert_eq!(
+                    printed(&input(n, 1, leader, &format!("{set}"), &cluster)),
+                    format!("refused{refusal:>4}\n"),
+                    "n {n}, leader {leader}, set {set}"
+                );
+            }
+        }
+    }
+}
+
+#[test]
+fn only_the_leaders_own_card_can_refuse_it() {
+    let mut cluster = Cluster::fresh(3, 2);
+    cluster.header_mut(2)[0] = b'#';
+    for (leader, expected) in [
+        (1, "   3   1   0   0\n"),
+        (2, "refused  12\n"),
+        (3, "   3   3   0   0\n"),
+    ] {
+        assert_eq!(
+            printed(&input(3, 2, leader, BLANK, &cluster.bytes)),
+            expected
+        );
+    }
+}
+
+/// Document 02's story: with the swapped card in the set, a reading that two of three had stored is cut.
+#[test]
+fn the_sample_waits_and_would_be_cut_with_the_swapped_card() {
+    let all = samples();
+    let sample = all
+        .iter()
+        .find(|sample| sample.name == "blank-set")
+        .unwrap();
+    assert_eq!(&sample.input[..14], b"  3  4  1    \n");
+    let cluster = &sample.input[14..];
+    let blank = printed(&sample.input);
+    assert_eq!(blank.lines().next(), Some("   3   1   1   3"));
+    assert_eq!(plan_bytes(&blank), [1, 1, 3]);
+    for (set, bytes) in [
+        ("1", [1, 1, 3]),
+        // Without the swapped card: replica 3 alone does not allow a cut.
+        ("5", [1, 1, 3]),
+        ("7", [1, 1, 4]),
+    ] {
+        assert_eq!(plan_bytes(&printed(&input(3, 4, 1, set, cluster))), bytes);
+    }
+}
