@@ -48,10 +48,10 @@ typedef char rope_needs_64_bit_sizes[sizeof(size_t) == 8 ? 1 : -1];
 /* ---- Version ------------------------------------------------------------------------------------------------------------------ */
 
 /* CHANGELOG.md says what a version promises. */
-#define ROPE_VERSION_MAJOR 4
+#define ROPE_VERSION_MAJOR 5
 #define ROPE_VERSION_MINOR 0
 #define ROPE_VERSION_PATCH 0
-#define ROPE_VERSION "4.0.0"
+#define ROPE_VERSION "5.0.0"
 
 /* ---- Sizes, in bytes ---------------------------------------------------------------------------------------------------------- */
 
