@@ -144,8 +144,8 @@ fn waiting() -> Sample {
 }
 
 /// Two of three replicas had stored the third reading. The leader's is spoilt, replica 2 has a new card,
-/// and replica 3 never had it. The set is left blank, so that nobody is asked: it waits. With the new
-/// card in the set it would be cut.
+/// and replica 3 never had it. The set is left blank, so that nobody is asked: it waits. With all three
+/// in the set it would be cut.
 fn blank_set() -> Sample {
     let mut cluster = agreeing(3);
     spoil_entry(&mut cluster, 1, 3);

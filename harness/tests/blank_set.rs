@@ -81,9 +81,10 @@ fn a_leader_that_is_no_replica_is_12() {
         // Every number that the column can hold, by the model; the ones at which a shift goes wrong, by both.
         for leader in 0..=999 {
             let input = input(n, 1, leader, BLANK, &cluster);
-            let expected = match leader {
-                1..=7 if leader <= n => format!("{n:>4}{leader:>4}   0   0\n"),
-                _ => "refused  12\n".to_string(),
+            let expected = if (1..=n).contains(&leader) {
+                format!("{n:>4}{leader:>4}   0   0\n")
+            } else {
+                "refused  12\n".to_string()
             };
             assert_eq!(String::from_utf8(report(&input)).unwrap(), expected);
             if leader <= 34 || [63, 64, 65, 128, 256, 512, 999].contains(&leader) {
@@ -140,20 +141,40 @@ fn a_set_in_full_finds_11_before_12() {
     }
 }
 
+/// Slot 1 is whole, slot 2 faulty and slot 3 without its record, at replicas 1 and 3; replica 4 has all
+/// three intact and is not asked. The card of replica 2 is refused.
 #[test]
-fn only_the_leaders_own_card_can_refuse_it() {
-    let mut cluster = Cluster::fresh(3, 2);
-    cluster.header_mut(2)[0] = b'#';
-    for (leader, expected) in [
-        (1, "   3   1   0   0\n"),
-        (2, "refused  12\n"),
-        (3, "   3   3   0   0\n"),
-    ] {
-        assert_eq!(
-            printed(&input(3, 2, leader, BLANK, &cluster.bytes)),
-            expected
-        );
+fn only_the_leaders_own_card_counts() {
+    let mut cluster = Cluster::fresh(4, 3);
+    for replica in 1..=4 {
+        for slot in 1..=3 {
+            cluster.put(replica, slot, 1, b"x");
+        }
     }
+    for replica in [1, 3] {
+        cluster.entry_mut(replica, 2).fill(b'#');
+        cluster.record_mut(replica, 3).fill(b'#');
+    }
+    cluster.header_mut(2)[0] = b'#';
+    let of = |leader| printed(&input(4, 3, leader, BLANK, &cluster.bytes));
+    for leader in [1, 3] {
+        let slots = "   1          1   1\n   2          1   3\n   3          1   2\n";
+        assert_eq!(of(leader), format!("   4{leader:>4}   1   2\n{slots}"));
+    }
+    assert_eq!(of(2), "refused  12\n");
+    assert_eq!(plan_bytes(&of(4)), [1, 1, 1]);
+}
+
+/// A lost record is mended from its own entry: the plan is ready.
+#[test]
+fn a_lost_record_does_not_wait() {
+    let mut cluster = Cluster::fresh(3, 1);
+    cluster.put(1, 1, 1, b"x");
+    cluster.record_mut(1, 1).fill(b'#');
+    assert_eq!(
+        printed(&input(3, 1, 1, BLANK, &cluster.bytes)),
+        "   3   1   0   1\n   1          1   2\n"
+    );
 }
 
 /// Document 02's story: with the swapped card in the set, a reading that two of three had stored is cut.
@@ -171,7 +192,8 @@ fn the_sample_waits_and_would_be_cut_with_the_swapped_card() {
     assert_eq!(plan_bytes(&blank), [1, 1, 3]);
     for (set, bytes) in [
         ("1", [1, 1, 3]),
-        // Without the swapped card: replica 3 alone does not allow a cut.
+        // Neither the swapped card alone nor replica 3 alone allows a cut, but both do.
+        ("3", [1, 1, 3]),
         ("5", [1, 1, 3]),
         ("7", [1, 1, 4]),
     ] {

@@ -396,9 +396,10 @@ fn printed_example(on: Code) {
     input.extend(&printed_cluster().bytes);
     let expected = "   3   1   0   2\n   1          1  12\n   2          1   1\n";
     assert_eq!(String::from_utf8(on.report(&input)).unwrap(), expected);
-    // A blank present word means all replicas.
+    // A blank present word means the leader alone, so the intact copy is not fetched.
     input[12] = b' ';
-    assert_eq!(String::from_utf8(on.report(&input)).unwrap(), expected);
+    let alone = "   3   1   1   1\n   1          1   3\n   2          1   1\n";
+    assert_eq!(String::from_utf8(on.report(&input)).unwrap(), alone);
 }
 
 fn printed_example_recovers(on: Code) {

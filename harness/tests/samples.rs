@@ -134,6 +134,15 @@ fn the_plans_are_the_named_ones() {
     assert_eq!(lines("refused-header"), [["refused", "12"]]);
 }
 
+/// Only one sample leaves the set blank.
+#[test]
+fn the_set_is_written_in_full() {
+    for name in stored_names() {
+        let input = stored(&name, ".in");
+        assert_eq!(&input[9..13] == b"    ", name == "blank-set", "{name}");
+    }
+}
+
 #[test]
 fn wrong_arguments() {
     for (arguments, word) in [

@@ -398,7 +398,7 @@ fn truncated_slots_are_printed(on: Code) {
     cluster.put(1, 1, 1, b"x");
     cluster.put(1, 2, u32::MAX, b"x");
     cluster.entry_mut(1, 1).fill(0);
-    let mut input = b"  3  2  1    \n".to_vec();
+    let mut input = b"  3  2  1   7\n".to_vec();
     input.extend(&cluster.bytes);
     let expected = "   3   1   0   0\n   1          1   4\n   2 4294967295   5\n";
     assert_eq!(String::from_utf8(on.report(&input)).unwrap(), expected);

@@ -1,13 +1,13 @@
 -- The leader alone: its bit is no other replica's, nobody answers, and nothing is cut.
 use Prim.Native.Nat.{ℕ, pred, suc, _+_, _-_, _/_, _%_, _^_, _<_}
 use mathlib.Core.Path.{_≡_, refl, sym, ap, _∙_}
-use mathlib.Core.Bool.{Bool, true, false, not, _&&_}
+use mathlib.Core.Bool.{Bool, true, false, cond, not, _&&_}
 use native.Mathlib.Omega.{arith}
 use native.Mathlib.Decide.{decLt, ℕ-discrete}
 use native.Mathlib.Nat.{div-eq-of-lt, mul-mod-left, pow-suc}
 use lib.Dec.{eqb}
 use lib.Pow.{pow-add, pow-lt, shl-shr}
-use borrow.Author.Tests.{eq-eqb, ne-eqb}
+use borrow.Author.Tests.{eq-eqb, ne-eqb, lt-ltb, le-ltb}
 use Rattle.search.specs.Search.{count}
 use Rattle.search.proofs.CountLaws.{count-none}
 use Rattle.search.proofs.SearchLaws.{lowest-is}
@@ -15,8 +15,8 @@ use Rattle.slices.specs.Parts.{Bytes}
 use Rattle.image.specs.View.{View, viewOf, isSize}
 use Rattle.image.proofs.CallLaws.{size-low}
 use Rattle.planner.specs.Setting.{Setting, has, settingOf, viewsOf}
-use Rattle.planner.specs.Rules.{isFaulty, isTruncate, Wait, mayTruncate, answers, have, dontHave, rule, end}
-use Rattle.planner.specs.Plan.{viewsIn}
+use Rattle.planner.specs.Rules.{isFaulty, isTruncate, Wait, mayTruncate, answers, have, dontHave, donor, rule, end}
+use Rattle.planner.specs.Plan.{viewsIn, keptByte, ruleByte, planByte}
 use Rattle.planner.proofs.MajorityLaws.{majority-least, waits-if}
 use Rattle.planner.proofs.RuleLaws.{keeps, no-donor, donor-is}
 use Rattle.report.specs.SetClaim.{alone}
@@ -73,7 +73,7 @@ module _ (n m leader : ℕ) (b : Bytes) (sized : isSize n ≡ true) where
   kept : (k : ℕ) → mayTruncate n (count (dontHave S W k) n) ≡ false
   kept k = waits-if n _ (omega (arith, count-none (dontHave S W k) n (λ c h. no-dont k c), majority-least n, size-low n sized))
 
-  pub faulty-waits : (k : ℕ) → isFaulty (W (pred leader) .condition k) ≡ true → rule S W k ≡ Wait
+  faulty-waits : (k : ℕ) → isFaulty (W (pred leader) .condition k) ≡ true → rule S W k ≡ Wait
   unfolding settingOf
   faulty-waits k f = no-donor S W k f (donor-is S W k n (omega arith) (λ c h. no-have k c) (λ h. absurd (omega (arith, h)))) ∙ rw (kept k) refl
 
@@ -88,3 +88,15 @@ module _ (n m leader : ℕ) (b : Bytes) (sized : isSize n ≡ true) where
   pub whole-log : end S W ≡ W (pred leader) .length
   unfolding end settingOf
   whole-log = lowest-is (λ k. isTruncate (rule S W k)) _ _ (omega arith) (λ k h. stands k) (λ h. absurd (omega (arith, h)))
+
+  -- w is the byte of a slot that waits
+  pub alone-byte : (k : ℕ) {w : ℕ} → k < W (pred leader) .length → w ≡ 3
+      → planByte S W k ≡ cond (isFaulty (W (pred leader) .condition k)) w (keptByte (W (pred leader) .condition k))
+  unfolding planByte ruleByte settingOf
+  alone-byte k {w} h q =
+      rw (lt-ltb k (W (pred leader) .length) h, whole-log, le-ltb (W (pred leader) .length) k (omega (arith, h))) (go (isFaulty (W (pred leader) .condition k)) refl)
+    where
+      go : (t : Bool) → isFaulty (W (pred leader) .condition k) ≡ t
+          → ruleByte (rule S W k) (W (pred leader) .condition k) (donor S W k) ≡ cond t w (keptByte (W (pred leader) .condition k))
+      go true f = rw (faulty-waits k f) (sym q)
+      go false f = rw (keeps S W k f) refl

@@ -1,7 +1,7 @@
 -- What documents 01 and 02 (Ten) say of the set's column, as a claim that the check demands.
-use Prim.Native.Nat.{ℕ, pred, _^_, _≤_, _<_}
+use Prim.Native.Nat.{ℕ, pred, _+_, _^_, _≤_, _<_}
 use mathlib.Core.Path.{_≡_}
-use mathlib.Core.Bool.{true, false, not}
+use mathlib.Core.Bool.{true, false, cond, not}
 use mathlib.Core.List.{[], _∷_, _++_}
 use lib.Dec.{eqb}
 use lib.ListN.{length, replicate}
@@ -11,9 +11,9 @@ use Rattle.image.specs.Refusal.{refuse, _else_}
 use Rattle.image.specs.View.{isSize, isReplica, isSlots}
 use Rattle.image.specs.Cluster.{imageAt}
 use Rattle.planner.specs.Setting.{Setting, has, settingOf}
-use Rattle.planner.specs.Rules.{isFaulty, Wait, rule, end}
-use Rattle.planner.specs.Plan.{viewsIn}
-use Rattle.report.specs.Report.{refusedLine, reportOf}
+use Rattle.planner.specs.Rules.{isFaulty, end}
+use Rattle.planner.specs.Plan.{viewsIn, keptByte, planByte}
+use Rattle.report.specs.Report.{refusedLine, clusterReport, reportOf}
 
 -- an input: n, m and the leader's number, the four bytes of the set, a newline, and the cluster
 unfoldable pub inputOf : ℕ → ℕ → ℕ → Bytes → Bytes → Bytes
@@ -28,7 +28,7 @@ pub record Writable (n m leader : ℕ) (b : Bytes) : Type 0 where
   pub n-fits : n < 1000
   pub m-fits : m < 1000
   pub leader-fits : leader < 1000
-  pub cluster-fits : length b ≤ 65522
+  pub cluster-fits : 14 + length b ≤ 65536
 
 -- 1, 2 or 3 where one applies, else r
 unfoldable pub afterShape : ℕ → ℕ → Bytes → ℕ → ℕ
@@ -39,18 +39,22 @@ abbrev pub alone : ℕ → ℕ → ℕ → Setting
 alone n m leader = settingOf n m leader (2 ^ pred leader)
 
 pub record SetClaim : Type 0 where
-  -- a blank set is printed like the leader's own bit in full, for any bytes of a cluster, and that bit is no other replica's
+  -- a set in full is the present set
+  pub full : (n m leader w : ℕ) (b : Bytes) → Writable n m leader b → w < 10000
+      → reportOf (inputOf n m leader (column 4 w) b) ≡ clusterReport n m leader w b
+  -- a blank one is printed like the leader's own bit in full, for any bytes of a cluster, and that bit is no other replica's
   pub blank : (n m leader : ℕ) (b : Bytes) → Writable n m leader b → isSize n ≡ true → isReplica n leader ≡ true
       → reportOf (inputOf n m leader blankSet b) ≡ reportOf (inputOf n m leader (column 4 (2 ^ pred leader)) b)
   pub only : (leader c : ℕ) → has (2 ^ pred leader) c ≡ eqb c (pred leader)
   -- a leader that is not 1 to n is then 12, whatever number its column holds: 1, 2 and 3 come before, and 11 never
   pub no-leader : (n m leader : ℕ) (b : Bytes) → Writable n m leader b → isReplica n leader ≡ false
       → reportOf (inputOf n m leader blankSet b) ≡ refusedLine (afterShape n m b 12)
-  -- a set in full with a bit for no replica is 11, whoever leads
+  -- a set in full with a bit for no replica is 11, whoever leads, behind 1, 2 and 3
   pub stray : (n m leader w : ℕ) (b : Bytes) → Writable n m leader b → w < 10000 → 2 ^ n ≤ w
       → reportOf (inputOf n m leader (column 4 w) b) ≡ refusedLine (afterShape n m b 11)
-  -- the leader alone cuts nothing: each of its faulty slots waits
+  -- the leader alone cuts and fetches nothing: its log ends where it ended, each faulty slot waits, and each other is kept
   pub uncut : (n m leader : ℕ) (b : Bytes) → isSize n ≡ true
       → end (alone n m leader) (viewsIn (alone n m leader) b) ≡ viewsIn (alone n m leader) b (pred leader) .length
-  pub waits : (n m leader : ℕ) (b : Bytes) (k : ℕ) → isSize n ≡ true
-      → isFaulty (viewsIn (alone n m leader) b (pred leader) .condition k) ≡ true → rule (alone n m leader) (viewsIn (alone n m leader) b) k ≡ Wait
+  pub waits : (n m leader : ℕ) (b : Bytes) (k : ℕ) → isSize n ≡ true → k < viewsIn (alone n m leader) b (pred leader) .length
+      → planByte (alone n m leader) (viewsIn (alone n m leader) b) k
+      ≡ cond (isFaulty (viewsIn (alone n m leader) b (pred leader) .condition k)) 3 (keptByte (viewsIn (alone n m leader) b (pred leader) .condition k))

@@ -9,7 +9,7 @@ use Rattle.image.specs.View.{isSize, isReplica}
 use Rattle.image.proofs.CallLaws.{size-high, replica-high}
 use Rattle.report.proofs.CommandLaws.{leader-none, leader-own}
 use Rattle.report.proofs.InputLaws.{printed-blank, printed-full}
-use Rattle.report.proofs.AloneLaws.{one-member, faulty-waits, whole-log}
+use Rattle.report.proofs.AloneLaws.{one-member, alone-byte, whole-log}
 use Rattle.report.proofs.SetRefusalLaws.{stray-refused, no-leader-refused}
 use Rattle.report.proofs.set_claim.Statement.{statement}
 use Rattle.report.proofs.set_claim.Tie as tie
@@ -24,12 +24,13 @@ narrow n leader s e = go (decLt n leader)
 
 returns : tie.Need-returns
 returns z = record {
+  full = λ n m leader x b w. printed-full n m leader b w x;
   blank = λ n m leader b w s e. printed-blank n m leader b w (leader-own n leader e) ∙ sym (printed-full n m leader b w _ (narrow n leader s e));
   only = λ leader. one-member (pred leader);
   no-leader = λ n m leader b w e. printed-blank n m leader b w (leader-none n leader e) ∙ no-leader-refused n m leader b e (omega arith);
   stray = λ n m leader x b w h s. printed-full n m leader b w x h ∙ stray-refused n m leader x b s (omega arith);
   uncut = whole-log;
-  waits = λ n m leader b k s. faulty-waits n m leader b s k;
+  waits = λ n m leader b k s h. alone-byte n m leader b s k h (omega arith);
 }
 
 pub set-claim-spec : {M : Type 1} → statement M
