@@ -2,8 +2,6 @@
 ghost use mathlib.Core.Path.{_≡_};
 ghost use Prim.Native.Nat.{ℕ, _<_};
 ghost use Rattle.report.specs.Command.{commandOf, commandLine, presentOf};
-ghost use mathlib.Core.Bool.{true};
-ghost use Rattle.image.specs.View.{isSize};
 use column::ColumnState;
 use report::Command;
 use report::Present;
@@ -59,11 +57,13 @@ pub fn read_command(input: &[u8]) -> Command
     command_of(n, m, leading, set)
 }
 
-// The set of the leader alone. If no replica has its number the set is empty, and planning refuses that leader.
+// The set of the leader alone. If there is no such replica the set is empty, and planning refuses the leader.
 fn leader_alone(n: usize, leading: usize) -> u32
-    requires { ⌜ n < 32 ⌝ }
     ensures { λ r. ⌜ r ≡ presentOf n leading Present.LeaderAlone ⌝ }
 {
+    if !vet::is_size(n) {
+        return 0;
+    }
     if leading < 1 {
         return 0;
     }
@@ -73,14 +73,11 @@ fn leader_alone(n: usize, leading: usize) -> u32
     1 << (leading - 1)
 }
 
-// The present set as a word. Where n is refused, any word will do.
+// The present set as a word.
 pub fn present_word(n: usize, leading: usize, present: Present) -> u32
-    ensures { λ r. ⌜ (isSize n ≡ true → r ≡ presentOf n leading present) ⌝ }
+    ensures { λ r. ⌜ r ≡ presentOf n leading present ⌝ }
 {
     let Present::Set(word) = present else {
-        if 31 < n {
-            return 0;
-        }
         return leader_alone(n, leading);
     };
     word

@@ -12,13 +12,14 @@ use lib.ListN.{length, getD}
 use borrow.Author.Tests.{lt-leb, le-leb, eq-eqb, ne-eqb}
 use Rattle.slices.specs.Parts.{Bytes, part}
 use Rattle.slices.proofs.PartLaws.{length-part}
+use Rattle.slices.proofs.SameLaws.{and-off}
 use Rattle.column.specs.ColumnState.{columnState}
 use Rattle.column.specs.declared.ColumnState.{ColumnState}
 use Rattle.column.specs.declared.ColumnState.the-variants.{Number, Blank}
 use Rattle.column.specs.declared.ColumnState.the-variants as column
 use Rattle.column.proofs.ColumnState.{the-type}
 use Rattle.column.proofs.StateLaws.{number-only-if}
-use Rattle.image.specs.View.{isReplica}
+use Rattle.image.specs.View.{isSize, isReplica}
 use Rattle.report.specs.Command.{numbered, chosen, commandOf, commandLine, presentOf}
 use Rattle.report.specs.declared.Present.{Present}
 use Rattle.report.specs.declared.Present.the-variants.{Set, LeaderAlone}
@@ -98,18 +99,23 @@ one-bit : (k : ℕ) → k < 32 → 1 * 2 ^ k % 4294967296 ≡ 2 ^ k
 one-bit k h = shl-exact 1 k 32 (omega arith) (omega arith) ∙ omega arith
 
 module _ (n leader : ℕ) where
-  -- no replica has that number
+  -- there is no such replica
+  pub unsized-none : isSize n ≡ false → 0 ≡ presentOf n leader LeaderAlone
+  unfolding presentOf
+  unsized-none e = rw e refl
+
   pub leader-none : isReplica n leader ≡ false → 0 ≡ presentOf n leader LeaderAlone
   unfolding presentOf
-  leader-none e = rw e refl
+  leader-none e = rw (e, and-off (isSize n)) refl
 
-  pub leader-own : isReplica n leader ≡ true → 2 ^ pred leader ≡ presentOf n leader LeaderAlone
-  unfolding presentOf
-  leader-own e = rw e refl
+  module _ (s : isSize n ≡ true) (e : isReplica n leader ≡ true) where
+    pub leader-own : 2 ^ pred leader ≡ presentOf n leader LeaderAlone
+    unfolding presentOf
+    leader-own = rw (s, e) refl
 
-  -- `1 << (leader - 1)`
-  pub leader-bit : {k : ℕ} → isReplica n leader ≡ true → k ≡ pred leader → k < 32 → 1 * 2 ^ k % 4294967296 ≡ presentOf n leader LeaderAlone
-  leader-bit {k} e p h = one-bit k h ∙ rw p (leader-own e)
+    -- `1 << (leader - 1)`
+    pub leader-bit : {k : ℕ} → k ≡ pred leader → k < 32 → 1 * 2 ^ k % 4294967296 ≡ presentOf n leader LeaderAlone
+    leader-bit {k} p h = one-bit k h ∙ rw p leader-own
 
   module _ (p : Present) where
     pub present-set : {w : ℕ} → p ≡ Set w → w ≡ presentOf n leader p

@@ -1,7 +1,7 @@
 -- What is printed of a plan, and when which refusal is.
 use Prim.Native.Nat.{ℕ, suc, _+_, _*_, _-_, _<_, _≤_}
 use mathlib.Core.Path.{_≡_, refl, sym, ap, ap₂, _∙_}
-use mathlib.Core.Bool.{Bool, true, false, cond}
+use mathlib.Core.Bool.{true}
 use mathlib.Core.List.{List, _++_}
 use native.Mathlib.Omega.{arith}
 use native.Mathlib.Numerals.{add-one}
@@ -11,11 +11,10 @@ use borrow.Author.Tests.{lt-ltb, le-ltb, ne-eqb}
 use Rattle.search.specs.Search.{joined}
 use Rattle.search.proofs.ListedLaws.{getD-listed, joined-cong}
 use Rattle.slices.specs.Parts.{Bytes}
-use Rattle.image.specs.Refusal.{refuse, _else_}
-use Rattle.image.specs.View.{View, isSize, isSlots}
+use Rattle.image.specs.View.{View}
 use Rattle.planner.specs.Setting.{Setting, settingOf}
 use Rattle.planner.specs.Rules.{answer}
-use Rattle.planner.specs.Plan.{viewsIn, planByte, planBytes, clusterRefusal, shapeRefusal}
+use Rattle.planner.specs.Plan.{viewsIn, planByte, planBytes, clusterRefusal}
 use Rattle.planner.specs.Survey.{SurveyOf, Planned}
 use Rattle.report.specs.Command.{commandLine, presentOf}
 use Rattle.report.specs.Report.{refusedLine, clusterReport, commandReport, reportOf, headLine, slotLine, statusOf, numberOf, slotLines, planLines, Prints}
@@ -74,26 +73,6 @@ module _ (n m leader present : ℕ) (b : Bytes) where
   unfolding clusterReport
   planned-report e = rw e refl
 
--- n is refused before the present set is looked at
-unsized : (n m leader x : ℕ) (b : Bytes) → isSize n ≡ false → (t : Bool) → isSlots m ≡ t → cond t 2 1 ≡ clusterRefusal n m leader x b
-unfolding shapeRefusal clusterRefusal refuse _else_
-unsized n m leader x b e true f = rw (f, e) refl
-unsized n m leader x b e false f = rw f refl
-
-pub any-set : (n m leader w p : ℕ) (b : Bytes) → (isSize n ≡ true → w ≡ p) → clusterReport n m leader w b ≡ clusterReport n m leader p b
-any-set n m leader w p b h = go (isSize n) refl
-  where
-    number : (t : Bool) → _≡_ {A = ℕ} (cond t 2 1) 0 → ⊥
-    number true z = omega arith
-    number false z = omega arith
-
-    refused : isSize n ≡ false → (x : ℕ) → refusedLine (cond (isSlots m) 2 1) ≡ clusterReport n m leader x b
-    refused e x = refused-report n m leader x b (unsized n m leader x b e (isSlots m) refl) (number (isSlots m))
-
-    go : (t : Bool) → isSize n ≡ t → clusterReport n m leader w b ≡ clusterReport n m leader p b
-    go true e = ap (λ (x : ℕ). clusterReport n m leader x b) (h e)
-    go false e = sym (refused e w) ∙ refused e p
-
 module _ (b : Bytes) where
   pub over-report : 65536 < length b → refusedLine 3 ≡ reportOf b
   unfolding reportOf
@@ -105,8 +84,8 @@ module _ (b : Bytes) where
     malformed-report e k = rw (le-ltb _ _ h, ← e, k) refl
 
     pub well-report : {c : Command} {n m leader w : ℕ} {set : Present} → c ≡ commandLine b → c ≡ Well n m leader set
-        → (isSize n ≡ true → w ≡ presentOf n leader set) → clusterReport n m leader w (take (length b - 14) (drop 14 b)) ≡ reportOf b
+        → w ≡ presentOf n leader set → clusterReport n m leader w (take (length b - 14) (drop 14 b)) ≡ reportOf b
     unfolding reportOf commandReport
     well-report {c} {n} {m} {leader} {w} {set} e k f =
         let all : take (length b - 14) (drop 14 b) ≡ drop 14 b = take-all (length b - 14) (drop 14 b) (rw length-drop (omega arith)) in
-        rw (all, le-ltb _ _ h, ← e, k) (any-set n m leader w (presentOf n leader set) (drop 14 b) f)
+        rw (all, le-ltb _ _ h, ← e, k) (ap (λ (x : ℕ). clusterReport n m leader x (drop 14 b)) f)

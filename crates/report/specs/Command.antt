@@ -7,7 +7,7 @@ use Rattle.slices.specs.Parts.{Bytes, part}
 use Rattle.column.specs.ColumnState.{columnState}
 use Rattle.column.specs.declared.ColumnState.{ColumnState}
 use Rattle.column.specs.declared.ColumnState.the-variants as column
-use Rattle.image.specs.View.{isReplica}
+use Rattle.image.specs.View.{isSize, isReplica}
 use Rattle.report.specs.declared.Present.{Present}
 use Rattle.report.specs.declared.Present.the-variants as present
 use Rattle.report.specs.declared.Command.{Command}
@@ -35,7 +35,7 @@ commandLine b =
     (commandOf (columnState (part b 0 3)) (columnState (part b 3 3)) (columnState (part b 6 3)) (columnState (part b 9 4)))
     command.Malformed
 
--- a blank set means the leader alone (02, Ten). It is no replica if its number is not 1 to n, and the set is then empty
+-- a blank set means the leader alone (02, Ten), and nobody if there is no such replica
 unfoldable pub presentOf : ℕ → ℕ → Present → ℕ
 presentOf n leader (present.Set w) = w
-presentOf n leader present.LeaderAlone = cond (isReplica n leader) (2 ^ pred leader) 0
+presentOf n leader present.LeaderAlone = cond (isSize n && isReplica n leader) (2 ^ pred leader) 0

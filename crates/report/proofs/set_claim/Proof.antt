@@ -1,9 +1,10 @@
 -- The claim's parts are laws.
 use Prim.Native.Nat.{ℕ, pred, _^_, _<_}
-use mathlib.Core.Path.{_≡_, sym, _∙_}
+use mathlib.Core.Path.{_≡_, sym, ap, _∙_}
 use mathlib.Core.Bool.{true, true≢false}
 use native.Mathlib.Omega.{arith}
 use native.Mathlib.Decide.{decLt}
+use lib.Dec.{eqb}
 use lib.Pow.{pow-mono}
 use Rattle.image.specs.View.{isSize, isReplica}
 use Rattle.image.proofs.CallLaws.{size-high, replica-high}
@@ -25,8 +26,8 @@ narrow n leader s e = go (decLt n leader)
 returns : tie.Need-returns
 returns z = record {
   full = λ n m leader x b w. printed-full n m leader b w x;
-  blank = λ n m leader b w s e. printed-blank n m leader b w (leader-own n leader e) ∙ sym (printed-full n m leader b w _ (narrow n leader s e));
-  only = λ leader. one-member (pred leader);
+  blank = λ n m leader b w s e. printed-blank n m leader b w (leader-own n leader s e) ∙ sym (printed-full n m leader b w _ (narrow n leader s e));
+  only = λ leader c. one-member (pred leader) c ∙ ap (eqb c) (omega arith);
   no-leader = λ n m leader b w e. printed-blank n m leader b w (leader-none n leader e) ∙ no-leader-refused n m leader b e (omega arith);
   stray = λ n m leader x b w h s. printed-full n m leader b w x h ∙ stray-refused n m leader x b s (omega arith);
   uncut = whole-log;

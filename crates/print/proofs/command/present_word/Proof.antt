@@ -1,6 +1,4 @@
-use Rattle.image.proofs.CallLaws.{size-high}
 use Rattle.report.proofs.CommandLaws as law
-use native.Mathlib.Omega.{arith}
 use borrow.Author.Needs.{needs}
 use Rattle.print.proofs.command.present_word.Statement.{statement}
 use Rattle.print.proofs.command.present_word.Tie as tie
@@ -11,19 +9,15 @@ enum-known-present c = search needs
 enum-told : tie.Need-enum-told
 enum-told c = search needs
 
-returns : tie.Need-returns
-returns c = λ h. absurd (omega (arith, size-high _ h))
-
 leader-alone-requires : tie.Need-leader-alone-requires
 leader-alone-requires c κs = search needs
 
-returns-2 : tie.Need-returns-2
-returns-2 c = λ h. law.present-blank _ _ _ (c .before .before .enum-told .given .1) (c .leader-alone .ensures)
+returns : tie.Need-returns
+returns c = law.present-blank _ _ _ (c .before .enum-told .given .1) (c .leader-alone .ensures)
 
-returns-3 : tie.Need-returns-3
-returns-3 c = λ h. law.present-set _ _ _ (c .before .present .given .1)
+returns-2 : tie.Need-returns-2
+returns-2 c = law.present-set _ _ _ (c .before .present .given .1)
 
 pub present-word-spec : {M : Type 1} → statement M
 present-word-spec =
-    tie.close
-    (tie.spec enum-known-present enum-told returns leader-alone-requires returns-2 returns-3)
+    tie.close (tie.spec enum-known-present enum-told leader-alone-requires returns returns-2)
