@@ -12,6 +12,7 @@ use crate::rules::walk_slots;
 use image::MAX_SLOTS;
 use planner::Plan;
 use planner::Survey;
+use record::Shape;
 use survey::cluster::view_cluster;
 
 mod rules; // rules.rt: what the replicas answer, and the plan of each slot
@@ -53,11 +54,11 @@ pub struct Opening {
 }
 
 // Surveys a cluster and plans it, for the leader's number, from 1.
-pub fn open_cluster(cluster: &[u8], n: usize, m: usize, leading: usize, present: u32) -> Opening
-    ensures refusal { λ r. ⌜ r .refusal ≡ clusterRefusal n m leading present (now (cluster .entry)) ⌝ }
-    ensures opened { λ r. ⌜ (r .refusal ≡ 0 → Opened n m leading present (now (cluster .entry)) (r .leader) (r .survey) (r .plan)) ⌝ }
+pub fn open_cluster(cluster: &[u8], shape: Shape, leading: usize, present: u32) -> Opening
+    ensures refusal { λ r. ⌜ r .refusal ≡ clusterRefusal shape leading present (now (cluster .entry)) ⌝ }
+    ensures opened { λ r. ⌜ (r .refusal ≡ 0 → Opened shape leading present (now (cluster .entry)) (r .leader) (r .survey) (r .plan)) ⌝ }
 {
-    let view = view_cluster(cluster, n, m, leading, present);
+    let view = view_cluster(cluster, shape, leading, present);
     let refusal = view.refusal;
     let survey = view.survey;
     if refusal != 0 {
@@ -70,7 +71,7 @@ pub fn open_cluster(cluster: &[u8], n: usize, m: usize, leading: usize, present:
         };
     }
     let leader = leading - 1;
-    let plan = plan_survey(survey, n, leader);
+    let plan = plan_survey(survey, shape.n, leader);
     Opening {
         refusal,
         leader,

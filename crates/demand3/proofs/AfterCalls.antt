@@ -13,7 +13,7 @@ use Rattle.protocol.proofs.Reached.{Reached, After, after-reached}
 use Rattle.demand3.proofs.LeftLaws.{left-reach}
 use Rattle.protocol.proofs.CallLaws.{accepted, call-accepted}
 
-pub calls-reach : (N : Numbers) (low : named N .leader < named N .n) {qs : List Request} {b z : Bytes} → length b ≡ imageAt (named N .m) (named N .n) → CallList N qs b z → Reached (named N) b z
+pub calls-reach : (N : Numbers) (low : named N .leader < named N .shape .n) {qs : List Request} {b z : Bytes} → length b ≡ imageAt (named N .shape) (named N .shape .n) → CallList N qs b z → Reached (named N) b z
 calls-reach N low size finished = record { size = size; reach = here }
 calls-reach N low size (refused q h r) = calls-reach N low size r
 calls-reach N low size (made q e l r) =

@@ -20,7 +20,7 @@ use Rattle.planner.specs.Setting.{Setting, viewsOf}
 use Rattle.planner.specs.Rules.{majority}
 use Rattle.demand3.specs.Supposed.{History, DamagedSlot, undamaged, recordBad, entryBad, Damaged, SameUpTo, Agree, held, committed, Supposed}
 use Rattle.protocol.proofs.Consistency.{Consistent}
-use Rattle.protocol.proofs.NoTruncation.{Holding}
+use Rattle.protocol.proofs.HoldingLaws.{Holding}
 use Rattle.protocol.proofs.Invariant.{Inv}
 
 -- ---- a damaged slot
@@ -121,63 +121,63 @@ module _ (n : ℕ) (H : ℕ → History) where
   epoch-below a c k cn h = like-witness a c (suc k) cn h .epochs k (omega arith)
 
 module _ (S : Setting) (F : Cluster) (H : ℕ → History) (K e : ℕ) (p : Bytes) (s : Supposed S F H K e p) where
-  view-length : (c : ℕ) → c < S .n → viewsOf S F c .length ≡ H c .length
+  view-length : (c : ℕ) → c < S .shape .n → viewsOf S F c .length ≡ H c .length
   unfolding viewsOf viewOf
-  view-length c cn = damaged-length (S .m) (H c) (F c) (s .damaged c cn)
+  view-length c cn = damaged-length (S .shape .m) (H c) (F c) (s .damaged c cn)
 
-  view-epoch : (c k : ℕ) → c < S .n → k < H c .length → viewsOf S F c .epoch k ≡ H c .epoch k
+  view-epoch : (c k : ℕ) → c < S .shape .n → k < H c .length → viewsOf S F c .epoch k ≡ H c .epoch k
   unfolding viewsOf viewOf epochAt
   view-epoch c k cn h = slot-epoch (s .damaged c cn .used k h)
 
-  base-consistent : Consistent S (payloadAt (S .n) H) (epochBelow (S .n) H) F
+  base-consistent : Consistent S (payloadAt (S .shape .n) H) (epochBelow (S .shape .n) H) F
   base-consistent = record {
     payloads = λ c k q cn ok h x.
         let b : k < H c .length = rw (view-length c cn) at h in
         let v = view-epoch c k cn b in
-        slot-payload (s .damaged c cn .used k b) q (rw v at x) ∙ sym (rw v (payload-at (S .n) H (s .agree) c k cn b));
+        slot-payload (s .damaged c cn .used k b) q (rw v at x) ∙ sym (rw v (payload-at (S .shape .n) H (s .agree) c k cn b));
     chain = λ c k cn ok h.
         let b : suc k < H c .length = rw (view-length c cn) at h in
-        view-epoch c k cn (omega arith) ∙ sym (rw (view-epoch c (suc k) cn b) (epoch-below (S .n) H (s .agree) c k cn b));
+        view-epoch c k cn (omega arith) ∙ sym (rw (view-epoch c (suc k) cn b) (epoch-below (S .shape .n) H (s .agree) c k cn b));
   }
 
-  pub base-holding : (c : ℕ) → c < S .n → held K e (H c) ≡ true → Holding K e (viewsOf S F c)
+  pub base-holding : (c : ℕ) → c < S .shape .n → held K e (H c) ≡ true → Holding K e (viewsOf S F c)
   base-holding c cn h =
       let x = held-elim K e (H c) h in
       record { within = omega (arith, view-length c cn, x .within); epoch = view-epoch c K cn (x .within) ∙ x .epoch }
 
-  pub base-inv : Inv S (payloadAt (S .n) H) (epochBelow (S .n) H) (λ c. held K e (H c)) K e F F
+  pub base-inv : Inv S (payloadAt (S .shape .n) H) (epochBelow (S .shape .n) H) (λ c. held K e (H c)) K e F F
   base-inv = record {
     consistent = base-consistent;
     holders = λ c cn h r. record { used = base-holding c cn h; entry = λ q y. y };
   }
 
-  pub many : majority (S .n) ≤ count (λ c. held K e (H c)) (S .n)
-  many = omega (arith, s .onMajority, committed-few (S .n) K e p H)
+  pub many : majority (S .shape .n) ≤ count (λ c. held K e (H c)) (S .shape .n)
+  many = omega (arith, s .onMajority, committed-few (S .shape .n) K e p H)
 
   -- every log that held it held this payload
-  pub one-payload : (c : ℕ) → c < S .n → held K e (H c) ≡ true → H c .payload K ≡ p
+  pub one-payload : (c : ℕ) → c < S .shape .n → held K e (H c) ≡ true → H c .payload K ≡ p
   unfolding Agree
   one-payload c cn h =
-      let d = lowest (λ d. committed K e p (H d)) (S .n) in
-      let dn = some-passes (λ d. committed K e p (H d)) (S .n) (omega (arith, s .onMajority, majority-some (S .n))) in
-      let t = lowest-passes (λ d. committed K e p (H d)) (S .n) dn in
+      let d = lowest (λ d. committed K e p (H d)) (S .shape .n) in
+      let dn = some-passes (λ d. committed K e p (H d)) (S .shape .n) (omega (arith, s .onMajority, majority-some (S .shape .n))) in
+      let t = lowest-passes (λ d. committed K e p (H d)) (S .shape .n) dn in
       let x = held-elim K e (H d) (committed-held K e p (H d) t) in
       let y = held-elim K e (H c) h in
       s .agree c d K cn dn (y .within) (x .within) (y .epoch ∙ sym (x .epoch)) .payloads K (omega arith) ∙ committed-payload K e p (H d) t
 
-  pub payload-is : S .leader < S .n → payloadAt (S .n) H K e ≡ p
+  pub payload-is : S .leader < S .shape .n → payloadAt (S .shape .n) H K e ≡ p
   payload-is n =
       let x = held-elim K e (H (S .leader)) (s .leaderHeld) in
-      rw (← x .epoch) (payload-at (S .n) H (s .agree) (S .leader) K n (x .within)) ∙ one-payload (S .leader) n (s .leaderHeld)
+      rw (← x .epoch) (payload-at (S .shape .n) H (s .agree) (S .leader) K n (x .within)) ∙ one-payload (S .leader) n (s .leaderHeld)
 
   -- an entry that a log held, intact with its epoch, has the payload
-  pub base-payload : (c : ℕ) (q : Bytes) → c < S .n → held K e (H c) ≡ true → F c .entries K ≡ intact e q → q ≡ p
+  pub base-payload : (c : ℕ) (q : Bytes) → c < S .shape .n → held K e (H c) ≡ true → F c .entries K ≡ intact e q → q ≡ p
   base-payload c q cn h x =
       let y = held-elim K e (H c) h in
       slot-payload (s .damaged c cn .used K (y .within)) q (rw (y .epoch) x) ∙ one-payload c cn h
 
   -- a slot that is used under this epoch was held
-  pub used-held : (c : ℕ) → c < S .n → Holding K e (viewsOf S F c) → held K e (H c) ≡ true
+  pub used-held : (c : ℕ) → c < S .shape .n → Holding K e (viewsOf S F c) → held K e (H c) ≡ true
   used-held c cn u =
       let b : K < H c .length = rw (view-length c cn) at (u .within) in
       held-intro K e (H c) b (sym (view-epoch c K cn b) ∙ u .epoch)

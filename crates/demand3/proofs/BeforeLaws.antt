@@ -55,9 +55,9 @@ module _ (m : ℕ) (f : Flight) (i : Image) (b : Before m f i) where
     unused = λ h. blank-kept (d .slots (logLength m i) h) (blank-next m i h);
   }
 
-pub damaged-cluster : (S : Setting) (F : Cluster) (f : ℕ → Flight) (G : Cluster) (k e : ℕ) (p : Bytes) → DamagedCluster S F f G k e p → Supposed S G (λ c. historyOf (S .m) (f c) (F c)) k e p
+pub damaged-cluster : (S : Setting) (F : Cluster) (f : ℕ → Flight) (G : Cluster) (k e : ℕ) (p : Bytes) → DamagedCluster S F f G k e p → Supposed S G (λ c. historyOf (S .shape .m) (f c) (F c)) k e p
 damaged-cluster S F f G k e p s = record {
-  damaged = λ c cn. history-damaged (S .m) (f c) (F c) (s .before c cn) (G c) (s .damage c cn);
+  damaged = λ c cn. history-damaged (S .shape .m) (f c) (F c) (s .before c cn) (G c) (s .damage c cn);
   agree = s .agree;
   onMajority = s .onMajority;
   leaderHeld = s .leaderHeld;

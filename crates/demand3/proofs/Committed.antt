@@ -16,8 +16,9 @@ use Rattle.demand3.specs.Supposed.{History, held, Supposed}
 use Rattle.protocol.proofs.PlanLaws.{ready-intro}
 use Rattle.protocol.proofs.Reach.{Reach}
 use Rattle.protocol.proofs.Always.{always}
-use Rattle.protocol.proofs.NoTruncation.{Holding, untruncated, end-above}
-use Rattle.protocol.proofs.Invariant.{Inv, reach-inv}
+use Rattle.protocol.proofs.Quorum.{untruncated, end-above}
+use Rattle.protocol.proofs.HoldingLaws.{Holding}
+use Rattle.protocol.proofs.Invariant.{Inv, inv-quorum, reach-inv}
 use Rattle.demand3.proofs.Base.{payloadAt, epochBelow, base-inv, base-holding, base-payload, used-held, many, payload-is}
 use Rattle.protocol.proofs.AtRest.{at-rest-facts, rest-whole}
 use Rattle.protocol.proofs.RuleLaws.{fetches, waits, stops, unstuck}
@@ -27,13 +28,13 @@ pub record WholeWith (i : Image) (k e : ℕ) (p : Bytes) : Type 0 where
   pub rec : i .records k ≡ good e
   pub ent : i .entries k ≡ intact e p
 
-module _ (S : Setting) (F₀ : Cluster) (H : ℕ → History) (K e : ℕ) (p : Bytes) (n : S .leader < S .n) (s : Supposed S F₀ H K e p) where
+module _ (S : Setting) (F₀ : Cluster) (H : ℕ → History) (K e : ℕ) (p : Bytes) (n : S .leader < S .shape .n) (s : Supposed S F₀ H K e p) where
   Holds : Cluster → Type 0
-  Holds F = Inv S (payloadAt (S .n) H) (epochBelow (S .n) H) (λ c. held K e (H c)) K e F₀ F
+  Holds F = Inv S (payloadAt (S .shape .n) H) (epochBelow (S .shape .n) H) (λ c. held K e (H c)) K e F₀ F
 
   holds : {F : Cluster} → Reach S F₀ F → Holds F
   unfolding Holds
-  holds r = reach-inv S (payloadAt (S .n) H) (epochBelow (S .n) H) (λ c. held K e (H c)) K e F₀ n (many S F₀ H K e p s) (s .leaderHeld) (base-inv S F₀ H K e p s) r
+  holds r = reach-inv S (payloadAt (S .shape .n) H) (epochBelow (S .shape .n) H) (λ c. held K e (H c)) K e F₀ n (many S F₀ H K e p s) (s .leaderHeld) (base-inv S F₀ H K e p s) r
 
   module _ {F : Cluster} (r : Reach S F₀ F) where
     readable : (c : ℕ) → viewsOf S F₀ c .readable ≡ true → viewsOf S F c .readable ≡ true
@@ -42,7 +43,7 @@ module _ (S : Setting) (F₀ : Cluster) (H : ℕ → History) (K e : ℕ) (p : B
     away-same : (c : ℕ) → viewsOf S F₀ c .readable ≡ false → F c ≡ F₀ c
     away-same c away = always S F₀ n r .untouched c away
 
-    pub kept-used : (c : ℕ) → c < S .n → held K e (H c) ≡ true → Holding K e (viewsOf S F c)
+    pub kept-used : (c : ℕ) → c < S .shape .n → held K e (H c) ≡ true → Holding K e (viewsOf S F c)
     unfolding Holds viewsOf
     kept-used c cn h = go (viewsOf S F₀ c .readable) refl
       where
@@ -50,7 +51,7 @@ module _ (S : Setting) (F₀ : Cluster) (H : ℕ → History) (K e : ℕ) (p : B
         go true ok = holds r .holders c cn h (readable c ok) .used
         go false away = rw (away-same c away) (base-holding S F₀ H K e p s c cn h)
 
-    pub kept-entry : (c : ℕ) (q : Bytes) → c < S .n → held K e (H c) ≡ true → F₀ c .entries K ≡ intact e q → F c .entries K ≡ intact e q
+    pub kept-entry : (c : ℕ) (q : Bytes) → c < S .shape .n → held K e (H c) ≡ true → F₀ c .entries K ≡ intact e q → F c .entries K ≡ intact e q
     unfolding Holds
     kept-entry c q cn h x = go (viewsOf S F₀ c .readable) refl
       where
@@ -58,21 +59,21 @@ module _ (S : Setting) (F₀ : Cluster) (H : ℕ → History) (K e : ℕ) (p : B
         go true ok = holds r .holders c cn h (readable c ok) .entry q x
         go false away = ap (λ (i : Image). i .entries K) (always S F₀ n r .untouched c away) ∙ x
 
-    pub used-payload : (c : ℕ) (q : Bytes) → c < S .n → Holding K e (viewsOf S F c) → F c .entries K ≡ intact e q → q ≡ p
+    pub used-payload : (c : ℕ) (q : Bytes) → c < S .shape .n → Holding K e (viewsOf S F c) → F c .entries K ≡ intact e q → q ≡ p
     unfolding Holds viewsOf
     used-payload c q cn u x = go (viewsOf S F₀ c .readable) refl
       where
         go : (t : Bool) → viewsOf S F₀ c .readable ≡ t → q ≡ p
         go true ok =
             holds r .consistent .payloads c K q cn (readable c ok) (u .within) (x ∙ ap (λ (t : ℕ). intact t q) (sym (u .epoch)))
-            ∙ ap (payloadAt (S .n) H K) (u .epoch)
+            ∙ ap (payloadAt (S .shape .n) H K) (u .epoch)
             ∙ payload-is S F₀ H K e p s n
         go false away =
             let same = away-same c away in
             base-payload S F₀ H K e p s c q cn (used-held S F₀ H K e p s c cn (rw same at u)) (ap (λ (i : Image). i .entries K) (sym same) ∙ x)
 
     -- the plan is ready and nothing is outstanding
-    pub stands : (l : ℕ) → answer S (viewsOf S F₀) ≡ Ready l → next S F ≡ none → (c : ℕ) → c < S .n → viewsOf S F₀ c .readable ≡ true → WholeWith (F c) K e p
+    pub stands : (l : ℕ) → answer S (viewsOf S F₀) ≡ Ready l → next S F ≡ none → (c : ℕ) → c < S .shape .n → viewsOf S F₀ c .readable ≡ true → WholeWith (F c) K e p
     unfolding Holds
     stands l a z c cn ok =
         let f = at-rest-facts S F l (always S F₀ n r .answers ∙ a) z in
@@ -86,20 +87,21 @@ module _ (S : Setting) (F₀ : Cluster) (H : ℕ → History) (K e : ℕ) (p : B
         }
 
   -- ---- the leader's entry is faulty
-  pub ready-first : viewsOf S F₀ (S .leader) .readable ≡ true → (c : ℕ) → c < S .n → have S (viewsOf S F₀) K c ≡ true → isFaulty (viewsOf S F₀ (S .leader) .condition K) ≡ true
+  pub ready-first : viewsOf S F₀ (S .leader) .readable ≡ true → (c : ℕ) → c < S .shape .n → have S (viewsOf S F₀) K c ≡ true → isFaulty (viewsOf S F₀ (S .leader) .condition K) ≡ true
       → ((j : ℕ) → j < end S (viewsOf S F₀) → (j ≡ K → ⊥) → isWait (rule S (viewsOf S F₀) j) ≡ false) → answer S (viewsOf S F₀) ≡ Ready (end S (viewsOf S F₀))
   ready-first ok c cn h f others =
       ready-intro S (viewsOf S F₀) (record { leader = ok; unstuck = λ k b. unstuck S (viewsOf S F₀) K (fetches S (viewsOf S F₀) K c cn h f) others k b (ℕ-discrete k K) })
 
-  pub waits-first : viewsOf S F₀ (S .leader) .readable ≡ true → isFaulty (viewsOf S F₀ (S .leader) .condition K) ≡ true → ((c : ℕ) → c < S .n → have S (viewsOf S F₀) K c ≡ false)
+  pub waits-first : viewsOf S F₀ (S .leader) .readable ≡ true → isFaulty (viewsOf S F₀ (S .leader) .condition K) ≡ true → ((c : ℕ) → c < S .shape .n → have S (viewsOf S F₀) K c ≡ false)
       → answer S (viewsOf S F₀) ≡ Waiting (firstWaiting S (viewsOf S F₀))
   unfolding Holds
   waits-first ok f none-has =
       let i = base-inv S F₀ H K e p s in
       let t = i .holders (S .leader) n (s .leaderHeld) ok .used in
-      let pay = payloadAt (S .n) H in
-      let prev = epochBelow (S .n) H in
+      let pay = payloadAt (S .shape .n) H in
+      let prev = epochBelow (S .shape .n) H in
       let hold : ℕ → Bool = λ c. held K e (H c) in
+      let quorum = inv-quorum S pay prev hold K e F₀ n (many S F₀ H K e p s) (s .leaderHeld) F₀ i ok in
       stops S (viewsOf S F₀) K ok
-      (end-above S pay prev F₀ (i .consistent) K e n ok t hold (many S F₀ H K e p s) (λ c cn h r. i .holders c cn h r .used))
-      (waits S (viewsOf S F₀) K none-has f (untruncated S pay prev F₀ (i .consistent) K e n ok t hold (many S F₀ H K e p s) (λ c cn h r. i .holders c cn h r .used) K (omega arith)))
+      (end-above S (viewsOf S F₀) hold K (t .within) quorum)
+      (waits S (viewsOf S F₀) K none-has f (untruncated S (viewsOf S F₀) hold K (quorum K (omega arith))))

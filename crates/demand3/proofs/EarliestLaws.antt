@@ -21,7 +21,7 @@ use Rattle.planner.specs.Rules.{majority, mayTruncate}
 use Rattle.planner.proofs.MajorityLaws.{too-few}
 use Rattle.protocol.specs.Call.{named}
 use Rattle.example.specs.Undamaged.{payloadA, imageWith, emptyImage, imageA}
-use Rattle.starred.specs.Cards.{noise}
+use Rattle.starred.specs.Cards.{withOne, noise}
 use Rattle.starred.specs.Sizes.{asked, cards}
 use Rattle.starred.proofs.ComputedLaws.{computed}
 use Rattle.starred.proofs.SeenLaws.{over, holds, recordOf, entryOf, over-at}
@@ -66,7 +66,7 @@ module _ (n d : ℕ) (low : 3 ≤ n) (high : n ≤ 7) (few : majority n + d ≤ 
   seen : {A : Type 0} (f g : ℕ → ℕ → A) → over f ≡ over g → f n d ≡ g n d
   seen f g e = over-at f g e n d low high few
 
-  damage-but : (c : ℕ) → c < n → Damage 1 (undamagedBut d c) (decode n 1 (cards n d) c)
+  damage-but : (c : ℕ) → c < n → Damage 1 (undamagedBut d c) (decode (withOne n) (cards n d) c)
   unfolding undamagedBut recordOf entryOf
   damage-but c h =
       let header = listed-at n _ _ (seen _ _ (computed .2 .headers)) c h in
@@ -74,10 +74,10 @@ module _ (n d : ℕ) (low : 3 ≤ n) (high : n ≤ 7) (few : majority n + d ≤ 
       let ent = listed-at n _ _ (seen _ _ (computed .2 .entries)) c h in
       record {
         header = rw header (header-damage (holds d c));
-        slots = one-slot (undamagedBut d c) (decode n 1 (cards n d) c) (rw (rec, ent) (slot-damage (eqb c 0) (ltb d c)));
+        slots = one-slot (undamagedBut d c) (decode (withOne n) (cards n d) c) (rw (rec, ent) (slot-damage (eqb c 0) (ltb d c)));
       }
 
-  damaged-but : DamagedCluster (named (asked n d)) (undamagedBut d) noFlights (decode n 1 (cards n d)) 0 2 payloadA
+  damaged-but : DamagedCluster (named (asked n d)) (undamagedBut d) noFlights (decode (withOne n) (cards n d)) 0 2 payloadA
   unfolding settingOf undamagedBut
   damaged-but = record {
     before = λ c h. before-either c (holds d c);

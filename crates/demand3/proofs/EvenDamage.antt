@@ -12,7 +12,7 @@ use Rattle.planner.specs.Setting.{settingOf}
 use Rattle.planner.specs.Rules.{majority}
 use Rattle.protocol.specs.Call.{named}
 use Rattle.example.specs.Undamaged.{payloadA, imageWith, emptyImage, imageA, undamagedFour}
-use Rattle.example.specs.Four.{four, evenCluster}
+use Rattle.example.specs.Four.{ofFour, four, evenCluster}
 use Rattle.example.proofs.ComputedLaws.{computed}
 use Rattle.demand3.specs.Supposed.{History, held, committed}
 use Rattle.demand3.specs.Before.{Before, spared, entryDamaged, headerSpared, Damage, payloadIn, historyOf, DamagedCluster}
@@ -30,30 +30,30 @@ unfolding noFlights
 alike-either c true = alike-A (noFlights c .inFlight)
 alike-either c false = alike-empty 0 (noFlights c)
 
-damage-four : (c : ℕ) → c < 4 → Damage 1 (undamagedFour c) (decode 4 1 evenCluster c)
+damage-four : (c : ℕ) → c < 4 → Damage 1 (undamagedFour c) (decode ofFour evenCluster c)
 unfolding undamagedFour imageA emptyImage imageWith four
 damage-four zero h = record {
   header = rw (computed .even-header-0) headerSpared;
-  slots = one-slot (undamagedFour 0) (decode 4 1 evenCluster 0) (rw (computed .even-0 .rec, computed .even-0 .ent) (entryDamaged stale));
+  slots = one-slot (undamagedFour 0) (decode ofFour evenCluster 0) (rw (computed .even-0 .rec, computed .even-0 .ent) (entryDamaged stale));
 }
 damage-four (suc zero) h = record {
   header = rw (computed .even-header-1) headerSpared;
-  slots = one-slot (undamagedFour 1) (decode 4 1 evenCluster 1) (rw (computed .even-1 .rec, computed .even-1 .ent) (entryDamaged noisy));
+  slots = one-slot (undamagedFour 1) (decode ofFour evenCluster 1) (rw (computed .even-1 .rec, computed .even-1 .ent) (entryDamaged noisy));
 }
 damage-four (suc (suc zero)) h = record {
   header = rw (computed .even-header-2) headerSpared;
-  slots = one-slot (undamagedFour 2) (decode 4 1 evenCluster 2) (rw (computed .even-2 .rec, computed .even-2 .ent) spared);
+  slots = one-slot (undamagedFour 2) (decode ofFour evenCluster 2) (rw (computed .even-2 .rec, computed .even-2 .ent) spared);
 }
 damage-four (suc (suc (suc zero))) h = record {
   header = rw (computed .even-header-3) headerSpared;
-  slots = one-slot (undamagedFour 3) (decode 4 1 evenCluster 3) (rw (computed .even-3 .rec, computed .even-3 .ent) spared);
+  slots = one-slot (undamagedFour 3) (decode ofFour evenCluster 3) (rw (computed .even-3 .rec, computed .even-3 .ent) spared);
 }
 damage-four (suc (suc (suc (suc c)))) h = absurd (omega arith)
 
 unfoldable historiesFour : ℕ → History
 historiesFour c = historyOf 1 (noFlights c) (undamagedFour c)
 
-pub damaged-four : DamagedCluster (named four) undamagedFour noFlights (decode 4 1 evenCluster) 0 2 payloadA
+pub damaged-four : DamagedCluster (named four) undamagedFour noFlights (decode ofFour evenCluster) 0 2 payloadA
 unfolding four settingOf majority historiesFour count sum oneIf committed held historyOf undamagedFour imageA emptyImage imageWith noFlights epochAt epochOf logLength lowest isBlank payloadIn payloadA same
 damaged-four = record {
   before = λ c h. before-either c (ltb c 3);

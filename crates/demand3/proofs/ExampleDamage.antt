@@ -18,8 +18,8 @@ use Rattle.demand3.specs.Supposed.{History, Agree, held, committed, Supp
 use Rattle.demand3.specs.Before.{Flight, FlightSlot, arrived, recordAlone, Before, SlotDamage, spared, recordDamaged, entryDamaged, unusedDamaged, headerSpared, headerRefused, Damage, payloadIn, historyOf, DamagedCluster}
 use Rattle.protocol.specs.Call.{named}
 use Rattle.example.specs.Undamaged.{payloadA, payloadB, payloadC, noise, imageWith, leaderImage, imageAB, emptyImage, gapImage, imageA, undamagedFive, undamagedThree}
-use Rattle.example.specs.Damaged.{five, damagedCluster}
-use Rattle.example.specs.Waiting.{three, waitingCluster}
+use Rattle.example.specs.Damaged.{ofFive, five, damagedCluster}
+use Rattle.example.specs.Waiting.{ofThree, three, waitingCluster}
 use Rattle.demand3.specs.Histories.{inFlightFive, writtenTo, flightsFive, historiesFive, noFlights}
 use Rattle.demand3.proofs.BeforeLaws.{damaged-cluster}
 use Rattle.example.proofs.ComputedLaws.{computed}
@@ -96,7 +96,7 @@ before-three c h = record { stored = λ k l e. stored-A k l; flying = λ k l e. 
 
 abbrev DamagedFive : ℕ → ℕ → Type 0
 DamagedFive c k =
-    SlotDamage (undamagedFive c .records k) (undamagedFive c .entries k) (decode 5 3 damagedCluster c .records k) (decode 5 3 damagedCluster c .entries k)
+    SlotDamage (undamagedFive c .records k) (undamagedFive c .entries k) (decode ofFive damagedCluster c .records k) (decode ofFive damagedCluster c .entries k)
 
 slots-first : (k : ℕ) → k < 3 → DamagedFive 0 k
 unfolding undamagedFive leaderImage imageWith five
@@ -133,7 +133,7 @@ slots-fifth (suc zero) h = rw (computed .slot-4-1 .rec, computed .slot-4-1 .ent)
 slots-fifth (suc (suc zero)) h = rw (computed .slot-4-2 .rec, computed .slot-4-2 .ent) spared
 slots-fifth (suc (suc (suc k))) h = absurd (omega arith)
 
-damage-five : (c : ℕ) → c < 5 → Damage 3 (undamagedFive c) (decode 5 3 damagedCluster c)
+damage-five : (c : ℕ) → c < 5 → Damage 3 (undamagedFive c) (decode ofFive damagedCluster c)
 unfolding undamagedFive leaderImage imageAB emptyImage gapImage imageWith
 damage-five zero h = record { header = rw (computed .header-0) headerSpared; slots = slots-first }
 damage-five (suc zero) h = record { header = rw (computed .header-1) headerSpared; slots = slots-second }
@@ -147,19 +147,19 @@ pub one-slot : (i j : Image) → SlotDamage (i .records 0) (i .entries 0) (j .re
 one-slot i j d zero h = d
 one-slot i j d (suc k) h = absurd (omega arith)
 
-damage-three : (c : ℕ) → c < 3 → Damage 1 (undamagedThree c) (decode 3 1 waitingCluster c)
+damage-three : (c : ℕ) → c < 3 → Damage 1 (undamagedThree c) (decode ofThree waitingCluster c)
 unfolding undamagedThree imageA imageWith three
 damage-three zero h = record {
   header = rw (computed .wait-header-0) headerSpared;
-  slots = one-slot (undamagedThree 0) (decode 3 1 waitingCluster 0) (rw (computed .wait-0 .rec, computed .wait-0 .ent) (entryDamaged noisy));
+  slots = one-slot (undamagedThree 0) (decode ofThree waitingCluster 0) (rw (computed .wait-0 .rec, computed .wait-0 .ent) (entryDamaged noisy));
 }
 damage-three (suc zero) h = record {
   header = rw (computed .wait-header-1) headerSpared;
-  slots = one-slot (undamagedThree 1) (decode 3 1 waitingCluster 1) (rw (computed .wait-1 .rec, computed .wait-1 .ent) (entryDamaged noisy));
+  slots = one-slot (undamagedThree 1) (decode ofThree waitingCluster 1) (rw (computed .wait-1 .rec, computed .wait-1 .ent) (entryDamaged noisy));
 }
 damage-three (suc (suc zero)) h = record {
   header = rw (computed .wait-header-2) headerRefused;
-  slots = one-slot (undamagedThree 2) (decode 3 1 waitingCluster 2) (rw (computed .wait-2 .rec, computed .wait-2 .ent) spared);
+  slots = one-slot (undamagedThree 2) (decode ofThree waitingCluster 2) (rw (computed .wait-2 .rec, computed .wait-2 .ent) spared);
 }
 damage-three (suc (suc (suc c))) h = absurd (omega arith)
 
@@ -263,7 +263,7 @@ alike-three c h = alike-A (noFlights c .inFlight)
 
 -- ---- all of it
 
-pub damaged-five : DamagedCluster (named five) undamagedFive flightsFive (decode 5 3 damagedCluster) 0 2 payloadA
+pub damaged-five : DamagedCluster (named five) undamagedFive flightsFive (decode ofFive damagedCluster) 0 2 payloadA
 unfolding five settingOf majority historiesFive count sum oneIf committed held historyOf undamagedFive leaderImage imageAB emptyImage gapImage imageWith flightsFive inFlightFive epochAt epochOf logLength lowest isBlank payloadIn payloadA same
 damaged-five = record {
   before = before-five;
@@ -273,11 +273,11 @@ damaged-five = record {
   leaderHeld = refl;
 }
 
-pub supposed-five : Supposed (named five) (decode 5 3 damagedCluster) historiesFive 0 2 payloadA
+pub supposed-five : Supposed (named five) (decode ofFive damagedCluster) historiesFive 0 2 payloadA
 unfolding five settingOf historiesFive
-supposed-five = damaged-cluster (named five) undamagedFive flightsFive (decode 5 3 damagedCluster) 0 2 payloadA damaged-five
+supposed-five = damaged-cluster (named five) undamagedFive flightsFive (decode ofFive damagedCluster) 0 2 payloadA damaged-five
 
-pub damaged-three : DamagedCluster (named three) undamagedThree noFlights (decode 3 1 waitingCluster) 0 2 payloadA
+pub damaged-three : DamagedCluster (named three) undamagedThree noFlights (decode ofThree waitingCluster) 0 2 payloadA
 unfolding three settingOf majority historiesThree count sum oneIf committed held historyOf undamagedThree imageA imageWith noFlights epochAt epochOf logLength lowest isBlank payloadIn payloadA same
 damaged-three = record {
   before = before-three;

@@ -1,5 +1,5 @@
 -- Every call, cut short or not, leaves what recovery can reach.
-use Prim.Native.Nat.{ℕ, _<_}
+use Prim.Native.Nat.{ℕ, suc, _<_}
 use mathlib.Core.Path.{_≡_, ap, _∙_}
 use mathlib.Core.Option.{some}
 use native.Mathlib.Omega.{arith}
@@ -25,29 +25,29 @@ use Rattle.protocol.proofs.StepLaws.{next-means, steps-mean}
 use Rattle.protocol.proofs.Reached.{Reached, steps-reached}
 use Rattle.protocol.proofs.Reach as reach
 
-module _ (S : Setting) (low : S .leader < S .n) where
-  open Setting S using (n, m)
+module _ (S : Setting) (low : S .leader < S .shape .n) where
+  open Setting S using (shape)
 
-  interrupted-reach : {s : Store} {a : Bytes} (b : Bytes) → length b ≡ imageAt m n → next S (decode n m b) ≡ some s → Interrupted S b s a → Reached S b a
+  interrupted-reach : {s : Store} {a : Bytes} (b : Bytes) → length b ≡ imageAt shape (shape .n) → next S (decode shape b) ≡ some s → Interrupted S b s a → Reached S b a
   unfolding storeReplica storeSlot
   interrupted-reach b size e old = record { size = size; reach = here }
   interrupted-reach b size e (new {s}) =
       let w = next-means S low b size s e in
       record { size = w .size; reach = rw (w .is) (made s e here) }
   interrupted-reach b size e (torn {c} {k} {d} t l x) =
-      let u = due-facts S (decode n m b) (storeEntry c k d) e in
-      let cn = due-target S (decode n m b) (storeEntry c k d) low (u .plan) (u .is-due) .below in
-      let km = due-slot S (decode n m b) (storeEntry c k d) (u .is-due) in
-      let w = entry-put n m b size c k t cn km l ∙ ap (λ (y : Entry). put (decode n m b) c (setEntry (decode n m b c) k y)) x in
+      let u = due-facts S (decode shape b) (storeEntry c k d) e in
+      let cn = due-target S (decode shape b) (storeEntry c k d) low (u .plan) (u .is-due) .below in
+      let km = due-slot S (decode shape b) (storeEntry c k d) (u .is-due) in
+      let w = entry-put shape b size c k t cn km l ∙ ap (λ (y : Entry). put (decode shape b) c (setEntry (decode shape b c) k y)) x in
       record {
-        size = length-in-image n m b size c cn (entryAt m k) t (omega (arith, entry-fits m k km));
+        size = length-in-image shape b size c cn (entryAt shape k) t (omega (arith, entry-fits shape (suc c) k km));
         reach = rw w (tore (storeEntry c k d) e (reach.torn t) here);
       }
 
-  pub left-reach : {j : ℕ} {b a : Bytes} → length b ≡ imageAt m n → LeftBytes S j b a → Reached S b a
+  pub left-reach : {j : ℕ} {b a : Bytes} → length b ≡ imageAt shape (shape .n) → LeftBytes S j b a → Reached S b a
   unfolding nextIn
   left-reach {j} {b} size whole = steps-reached S low j b size
   left-reach {j} {b} size (interrupted i s l e x) =
       let w = steps-mean S low i b size in
       let v = interrupted-reach (stepsBytes S i b) (w .size) e x in
-      record { size = v .size; reach = reach-on S (reach-steps S i (decode n m b)) (rw (w .is) at (v .reach)) }
+      record { size = v .size; reach = reach-on S (reach-steps S i (decode shape b)) (rw (w .is) at (v .reach)) }

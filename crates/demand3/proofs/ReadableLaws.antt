@@ -8,6 +8,6 @@ use Rattle.protocol.specs.Call.{Numbers, named}
 use Rattle.demand3.specs.Claim.{readable}
 use Rattle.protocol.proofs.CallLaws.{Accepted}
 
-pub readable-view : (N : Numbers) (b : Bytes) → Accepted N b → (c : ℕ) → c < N .n → readable N b c ≡ viewsIn (named N) b c .readable
+pub readable-view : (N : Numbers) (b : Bytes) → Accepted N b → (c : ℕ) → c < N .shape .n → readable N b c ≡ viewsIn (named N) b c .readable
 unfolding readable
-readable-view N b a c cn = sym (own-refusal (N .n) (N .m) (N .leader) (N .present) b c (a .sizes) (a .slots) (a .size) cn)
+readable-view N b a c cn = sym (own-refusal (N .shape) (N .leader) (N .present) b c (a .sizes) (a .slots) (a .size) cn)

@@ -71,8 +71,8 @@ historyOf m f i = record {
 -- what demand 3 supposes of payload p at slot k under epoch e
 pub record DamagedCluster (S : Setting) (F : Cluster) (f : ℕ → Flight) (G : Cluster) (k e : ℕ) (p : Bytes) : Type 0 where
   -- cluster F before the damage, with f in flight, became G
-  pub before : (c : ℕ) → c < S .n → Before (S .m) (f c) (F c)
-  pub damage : (c : ℕ) → c < S .n → Damage (S .m) (F c) (G c)
-  pub agree : Agree (S .n) (λ c. historyOf (S .m) (f c) (F c))
-  pub onMajority : majority (S .n) ≤ count (λ c. committed k e p (historyOf (S .m) (f c) (F c))) (S .n)
-  pub leaderHeld : held k e (historyOf (S .m) (f (S .leader)) (F (S .leader))) ≡ true
+  pub before : (c : ℕ) → c < S .shape .n → Before (S .shape .m) (f c) (F c)
+  pub damage : (c : ℕ) → c < S .shape .n → Damage (S .shape .m) (F c) (G c)
+  pub agree : Agree (S .shape .n) (λ c. historyOf (S .shape .m) (f c) (F c))
+  pub onMajority : majority (S .shape .n) ≤ count (λ c. committed k e p (historyOf (S .shape .m) (f c) (F c))) (S .shape .n)
+  pub leaderHeld : held k e (historyOf (S .shape .m) (f (S .leader)) (F (S .leader))) ≡ true

@@ -6,11 +6,11 @@ use mathlib.Core.Bool.{Bool, true, false, _&&_}
 use lib.Dec.{eqb}
 use lib.ListN.{length}
 use Rattle.slices.specs.Parts.{Bytes, part}
-use Rattle.record.specs.Layout.{recordBytes, entryBytes}
+use Rattle.record.specs.Layout.{recordSize, entrySize, recordBytes, entryBytes}
 use Rattle.record.specs.Meaning.{intact, readEntry}
-use Rattle.image.specs.Image.{recordAt, entryAt}
+use Rattle.image.specs.Image.{index, recordAt, entryAt}
 use Rattle.image.specs.View.{readRefusal}
-use Rattle.image.specs.Cluster.{imageAt, imagePart}
+use Rattle.image.specs.Cluster.{imageAt, imagePart, firstAt}
 use Rattle.planner.specs.Setting.{Setting, has}
 use Rattle.planner.specs.Plan.{viewsIn}
 use Rattle.planner.specs.Rules.{isFaulty, have, rule, isWait, end}
@@ -21,14 +21,14 @@ use Rattle.protocol.specs.CallResult.{refused, waiting, ready, recovered, spent
 
 -- replica c (from 0) is present, and its own image is not refused
 unfoldable pub readable : Numbers → Bytes → ℕ → Bool
-readable N b c = has (N .present) c && eqb (readRefusal (suc c) (N .n) (N .m) (imagePart (N .m) b c)) 0
+readable N b c = has (N .present) c && eqb (readRefusal (N .shape) (suc c) (imagePart (N .shape) b c)) 0
 
 -- the bytes of an entry and of a record in the cluster
 unfoldable pub entryIn : Setting → Bytes → ℕ → ℕ → Bytes
-entryIn S b c k = part b (imageAt (S .m) c + entryAt (S .m) k) 240
+entryIn S b c k = part b (imageAt (S .shape) c + entryAt (S .shape) k) entrySize
 
 unfoldable pub recordIn : Setting → Bytes → ℕ → ℕ → Bytes
-recordIn S b c k = part b (imageAt (S .m) c + recordAt k) 34
+recordIn S b c k = part b (imageAt (S .shape) c + recordAt (S .shape) k) recordSize
 
 -- slot k of replica c is used under epoch e
 pub record UsedUnder (S : Setting) (b : Bytes) (c k e : ℕ) : Type 0 where
@@ -37,8 +37,8 @@ pub record UsedUnder (S : Setting) (b : Bytes) (c k e : ℕ) : Type 0 where
 
 -- record and entry are the writer's
 pub record Stands (S : Setting) (b : Bytes) (c k e : ℕ) (p : Bytes) : Type 0 where
-  pub rec : recordIn S b c k ≡ recordBytes e (suc k)
-  pub ent : entryIn S b c k ≡ entryBytes e (suc k) p
+  pub rec : recordIn S b c k ≡ recordBytes e (index (firstAt (S .shape) b c) k)
+  pub ent : entryIn S b c k ≡ entryBytes e (index (firstAt (S .shape) b c) k) p
 
 -- a call that ends by itself
 pub record Uncut (N : Numbers) (b : Bytes) : Type 0 where
@@ -70,8 +70,8 @@ pub record PartA (N : Numbers) (b₀ b : Bytes) : Type 0 where
   pub waitingSame : (k : ℕ) → callResult N (planning N) b₀ ≡ waiting k → b ≡ b₀
   -- replicas away or unreadable keep every byte; the same replicas are readable
   pub size : length b ≡ length b₀
-  pub away : (c : ℕ) → c < N .n → readable N b₀ c ≡ false → imagePart (N .m) b c ≡ imagePart (N .m) b₀ c
-  pub readables : (c : ℕ) → c < N .n → readable N b c ≡ readable N b₀ c
+  pub away : (c : ℕ) → c < N .shape .n → readable N b₀ c ≡ false → imagePart (N .shape) b c ≡ imagePart (N .shape) b₀ c
+  pub readables : (c : ℕ) → c < N .shape .n → readable N b c ≡ readable N b₀ c
   -- a run of budget 3 × n × m ends as from the first cluster, every byte alike, though its count may differ
   pub fullBytes : callBytes N (run (bound N)) b ≡ callBytes N (run (bound N)) b₀
   pub fullEnds : withoutCount (callResult N (run (bound N)) b) ≡ withoutCount (callResult N (run (bound N)) b₀)
@@ -90,23 +90,23 @@ pub record Waits (N : Numbers) (b₀ b : Bytes) : Type 0 where
 -- of payload p at slot k under epoch e
 pub record PartB (N : Numbers) (b₀ : Bytes) (H : ℕ → History) (k e : ℕ) (p : Bytes) (b : Bytes) : Type 0 where
   -- a replica whose log held it keeps its slot used under e, and the entry's bytes if they were intact with e
-  pub used : (c : ℕ) → c < N .n → held k e (H c) ≡ true → UsedUnder (named N) b c k e
-  pub entry : (c : ℕ) (q : Bytes) → c < N .n → held k e (H c) ≡ true → readEntry (suc k) (entryIn (named N) b₀ c k) ≡ intact e q
+  pub used : (c : ℕ) → c < N .shape .n → held k e (H c) ≡ true → UsedUnder (named N) b c k e
+  pub entry : (c : ℕ) (q : Bytes) → c < N .shape .n → held k e (H c) ≡ true → readEntry (index (firstAt (N .shape) b₀ c) k) (entryIn (named N) b₀ c k) ≡ intact e q
       → entryIn (named N) b c k ≡ entryIn (named N) b₀ c k
   -- any entry there intact with e has the payload: where a log held it, and where the slot is used under e
-  pub heldPayload : (c : ℕ) (q : Bytes) → c < N .n → held k e (H c) ≡ true → readEntry (suc k) (entryIn (named N) b c k) ≡ intact e q → q ≡ p
-  pub usedPayload : (c : ℕ) (q : Bytes) → c < N .n → UsedUnder (named N) b c k e → readEntry (suc k) (entryIn (named N) b c k) ≡ intact e q → q ≡ p
+  pub heldPayload : (c : ℕ) (q : Bytes) → c < N .shape .n → held k e (H c) ≡ true → readEntry (index (firstAt (N .shape) b c) k) (entryIn (named N) b c k) ≡ intact e q → q ≡ p
+  pub usedPayload : (c : ℕ) (q : Bytes) → c < N .shape .n → UsedUnder (named N) b c k e → readEntry (index (firstAt (N .shape) b c) k) (entryIn (named N) b c k) ≡ intact e q → q ≡ p
   -- the leader's entry is faulty and planning is not refused: with a copy within reach and no other slot that stays waiting the plan is
   -- ready; with no copy within reach it waits
   pub isReady : (c : ℕ) → refusalIn N b₀ ≡ 0 → isFaulty (viewsIn (named N) b₀ (named N .leader) .condition k) ≡ true
-      → c < N .n → have (named N) (viewsIn (named N) b₀) k c ≡ true
+      → c < N .shape .n → have (named N) (viewsIn (named N) b₀) k c ≡ true
       → ((j : ℕ) → j < end (named N) (viewsIn (named N) b₀) → (j ≡ k → ⊥) → isWait (rule (named N) (viewsIn (named N) b₀) j) ≡ false)
       → callResult N (planning N) b₀ ≡ ready (end (named N) (viewsIn (named N) b₀))
   pub waits : refusalIn N b₀ ≡ 0 → isFaulty (viewsIn (named N) b₀ (named N .leader) .condition k) ≡ true
-      → ((c : ℕ) → c < N .n → have (named N) (viewsIn (named N) b₀) k c ≡ false) → Waits N b₀ b
+      → ((c : ℕ) → c < N .shape .n → have (named N) (viewsIn (named N) b₀) k c ≡ false) → Waits N b₀ b
   -- the plan is ready: after every run that is not spent it stands on every readable present replica; and at once, if a step answers that no
   -- store is outstanding
   pub mended : (l j : ℕ) → callResult N (planning N) b₀ ≡ ready l → isSpent (callResult N (run j) b) ≡ false
-      → (c : ℕ) → c < N .n → readable N b₀ c ≡ true → Stands (named N) (callBytes N (run j) b) c k e p
+      → (c : ℕ) → c < N .shape .n → readable N b₀ c ≡ true → Stands (named N) (callBytes N (run j) b) c k e p
   pub atRest : callResult N step b ≡ recovered 0
-      → (c : ℕ) → c < N .n → readable N b₀ c ≡ true → Stands (named N) b c k e p
+      → (c : ℕ) → c < N .shape .n → readable N b₀ c ≡ true → Stands (named N) b c k e p

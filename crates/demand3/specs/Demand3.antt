@@ -18,12 +18,12 @@ pub record Demand3 : Type 0 where
   pub always : (N : Numbers) (qs : List Request) (b₀ b : Bytes) → CallList N qs b₀ b → PartA N b₀ b
   -- part B: a payload that stood committed on a majority, over histories
   pub committed : (N : Numbers) (qs : List Request) (b₀ b : Bytes) (H : ℕ → History) (k e : ℕ) (p : Bytes)
-      → Supposed (named N) (decode (N .n) (N .m) b₀) H k e p → CallList N qs b₀ b → PartB N b₀ H k e p b
+      → Supposed (named N) (decode (N .shape) b₀) H k e p → CallList N qs b₀ b → PartB N b₀ H k e p b
   -- a cluster before the damage, damaged as document 01 says, gives such histories
   pub damaged : (S : Setting) (F : Cluster) (f : ℕ → Flight) (G : Cluster) (k e : ℕ) (p : Bytes)
-      → DamagedCluster S F f G k e p → Supposed S G (λ c. historyOf (S .m) (f c) (F c)) k e p
+      → DamagedCluster S F f G k e p → Supposed S G (λ c. historyOf (S .shape .m) (f c) (F c)) k e p
   -- so, in one sentence: cluster F stood as document 01 says, with f in flight, and damage left the bytes b₀; whatever list of calls is made
   -- from there, part B holds of every payload that F had committed on a majority
   pub demand : (N : Numbers) (qs : List Request) (F : Cluster) (f : ℕ → Flight) (b₀ b : Bytes) (k e : ℕ) (p : Bytes)
-      → DamagedCluster (named N) F f (decode (N .n) (N .m) b₀) k e p → CallList N qs b₀ b
-      → PartB N b₀ (λ c. historyOf (N .m) (f c) (F c)) k e p b
+      → DamagedCluster (named N) F f (decode (N .shape) b₀) k e p → CallList N qs b₀ b
+      → PartB N b₀ (λ c. historyOf (N .shape .m) (f c) (F c)) k e p b

@@ -14,6 +14,7 @@ use Rattle.planner.specs.Plan.{viewsIn}
 use Rattle.protocol.specs.Call.{named, refusalIn}
 use Rattle.protocol.specs.CallResult.{waiting}
 use Rattle.example.specs.Undamaged.{payloadA, emptyImage, imageA}
+use Rattle.starred.specs.Cards.{withOne}
 use Rattle.starred.specs.Sizes.{asked, cards, planned}
 use Rattle.demand3.specs.Before.{DamagedCluster}
 use Rattle.demand3.specs.Histories.{noFlights}
@@ -22,7 +23,7 @@ use Rattle.demand3.specs.Histories.{noFlights}
 unfoldable pub ruleBy : (ℕ → ℕ → Bool) → Setting → (ℕ → View) → ℕ → Rule
 ruleBy test S W k =
     cond (isFaulty (W (S .leader) .condition k))
-    (cond (ltb (donor S W k) (S .n)) Fetch (cond (test (S .n) (count (dontHave S W k) (S .n))) Truncate Wait))
+    (cond (ltb (donor S W k) (S .shape .n)) Fetch (cond (test (S .shape .n) (count (dontHave S W k) (S .shape .n))) Truncate Wait))
     Keep
 
 -- before the damage all but the d replicas after the leader had A
@@ -32,7 +33,7 @@ undamagedBut d c = cond (eqb c 0 || ltb d c) imageA emptyImage
 -- n replicas, d don't-haves: A stood committed on a majority, the plan waits for it, and by the other test it is truncated
 pub record TruncatesCommitted (test : ℕ → ℕ → Bool) (n d : ℕ) : Type 0 where
   pub accepted : refusalIn (asked n d) (cards n d) ≡ 0
-  pub committed : DamagedCluster (named (asked n d)) (undamagedBut d) noFlights (decode n 1 (cards n d)) 0 2 payloadA
+  pub committed : DamagedCluster (named (asked n d)) (undamagedBut d) noFlights (decode (withOne n) (cards n d)) 0 2 payloadA
   pub lacking : count (dontHave (named (asked n d)) (viewsIn (named (asked n d)) (cards n d)) 0) n ≡ d
   pub waits : planned n d ≡ waiting 1
   pub truncated : ruleBy test (named (asked n d)) (viewsIn (named (asked n d)) (cards n d)) 0 ≡ Truncate

@@ -13,9 +13,9 @@ use Rattle.demand3.specs.CallList.{Request, CallList}
 use Rattle.demand3.specs.Claim.{Stands, PartA, PartB, Waits}
 use Rattle.protocol.specs.CallResult.{callResult, callBytes, planning, ready, recovered, spent}
 use Rattle.example.specs.Undamaged.{payloadA, undamagedFive, undamagedThree, undamagedFour}
-use Rattle.example.specs.Damaged.{five, damagedCluster}
-use Rattle.example.specs.Waiting.{three, waitingCluster}
-use Rattle.example.specs.Four.{four, evenCluster, evenTorn}
+use Rattle.example.specs.Damaged.{ofFive, five, damagedCluster}
+use Rattle.example.specs.Waiting.{ofThree, three, waitingCluster}
+use Rattle.example.specs.Four.{ofFour, four, evenCluster, evenTorn}
 use Rattle.example.specs.Visited.{fetchedOne, lastStored, lastCluster}
 use Rattle.demand3.specs.Histories.{flightsFive, historiesFive, noFlights}
 
@@ -28,11 +28,11 @@ asked q = record { numbers = five; call = q }
 unfoldable pub calls : List Request
 calls =
     asked (plan 3 5)
-    ∷ record { numbers = record { n = 5; m = 0; leader = 1; present = 31 }; call = run 9 }
-    ∷ record { numbers = record { n = 8; m = 3; leader = 1; present = 31 }; call = step }
-    ∷ record { numbers = record { n = 5; m = 2; leader = 1; present = 31 }; call = step }
-    ∷ record { numbers = record { n = 5; m = 3; leader = 1; present = 63 }; call = step }
-    ∷ record { numbers = record { n = 5; m = 3; leader = 5; present = 31 }; call = step }
+    ∷ record { numbers = record { shape = record { n = 5; m = 0 }; leader = 1; present = 31 }; call = run 9 }
+    ∷ record { numbers = record { shape = record { n = 8; m = 3 }; leader = 1; present = 31 }; call = step }
+    ∷ record { numbers = record { shape = record { n = 5; m = 2 }; leader = 1; present = 31 }; call = step }
+    ∷ record { numbers = record { shape = ofFive; leader = 1; present = 63 }; call = step }
+    ∷ record { numbers = record { shape = ofFive; leader = 5; present = 31 }; call = step }
     ∷ asked (plan 2 5)
     ∷ asked (run 100)
     ∷ asked step
@@ -47,8 +47,8 @@ calls =
 -- five replicas: A was committed on four of them, C was in flight, and the damage left the cluster that the list is played from
 pub record Exhibit : Type 0 where
   pub accepted : refusalIn five damagedCluster ≡ 0
-  pub damaged : DamagedCluster (named five) undamagedFive flightsFive (decode 5 3 damagedCluster) 0 2 payloadA
-  pub supposed : Supposed (named five) (decode 5 3 damagedCluster) historiesFive 0 2 payloadA
+  pub damaged : DamagedCluster (named five) undamagedFive flightsFive (decode ofFive damagedCluster) 0 2 payloadA
+  pub supposed : Supposed (named five) (decode ofFive damagedCluster) historiesFive 0 2 payloadA
   pub played : CallList five calls damagedCluster lastCluster
   -- so what the claim concludes holds of it
   pub always : PartA five damagedCluster lastCluster
@@ -67,7 +67,7 @@ pub record Exhibit : Type 0 where
 -- three replicas: A was committed on all, and no copy is within reach; so it waits
 pub record WaitingExhibit : Type 0 where
   pub accepted : refusalIn three waitingCluster ≡ 0
-  pub damaged : DamagedCluster (named three) undamagedThree noFlights (decode 3 1 waitingCluster) 0 2 payloadA
+  pub damaged : DamagedCluster (named three) undamagedThree noFlights (decode ofThree waitingCluster) 0 2 payloadA
   pub faulty : isFaulty (viewsIn (named three) waitingCluster 0 .condition 0) ≡ true
   pub noCopy : (c : ℕ) → c < 3 → have (named three) (viewsIn (named three) waitingCluster) 0 c ≡ false
   pub played : CallList three (record { numbers = three; call = plan 1 3 } ∷ []) waitingCluster waitingCluster
@@ -77,7 +77,7 @@ pub record WaitingExhibit : Type 0 where
 -- the next one ends, and A stands on all
 pub record EvenExhibit : Type 0 where
   pub accepted : refusalIn four evenCluster ≡ 0
-  pub damaged : DamagedCluster (named four) undamagedFour noFlights (decode 4 1 evenCluster) 0 2 payloadA
+  pub damaged : DamagedCluster (named four) undamagedFour noFlights (decode ofFour evenCluster) 0 2 payloadA
   pub played : CallList four (record { numbers = four; call = run 12 } ∷ []) evenCluster evenTorn
   pub isReady : callResult four (planning four) evenCluster ≡ ready 1
   pub lastRun : callResult four (run 12) evenTorn ≡ recovered 4

@@ -48,7 +48,7 @@ committed k e p h = held k e h && (same (h .payload k) p && not (h .inFlight k))
 
 -- what demand 3 supposes of a payload p at slot k under epoch e: it stood committed on a majority of all n, and the leader's log held it
 pub record Supposed (S : Setting) (F : Cluster) (H : ℕ → History) (k e : ℕ) (p : Bytes) : Type 0 where
-  pub damaged : (c : ℕ) → c < S .n → Damaged (S .m) (H c) (F c)
-  pub agree : Agree (S .n) H
-  pub onMajority : majority (S .n) ≤ count (λ c. committed k e p (H c)) (S .n)
+  pub damaged : (c : ℕ) → c < S .shape .n → Damaged (S .shape .m) (H c) (F c)
+  pub agree : Agree (S .shape .n) H
+  pub onMajority : majority (S .shape .n) ≤ count (λ c. committed k e p (H c)) (S .shape .n)
   pub leaderHeld : held k e (H (S .leader)) ≡ true

@@ -5,13 +5,13 @@ use Rattle.slices.specs.Parts.{part, spliced}
 use Rattle.slices.specs.Same.{same}
 use Rattle.checksum.specs.Checksum.{sumA, sumB, checksumOf}
 use Rattle.column.specs.Column.{digits, column, digitStep, valueFrom, valueOf}
-use Rattle.record.specs.Layout.{sealed, headerBytes, recordBytes, blankRecord, padded, entryBytes, freshEntry}
-use Rattle.record.specs.Meaning.{isEpoch, readHeader, isGood, recordEpoch, readRecord, isIntact, entryEpoch, entryPayload, readEntry}
+use Rattle.record.specs.Layout.{headerSize, sealed, headerBytes, recordBytes, blankRecord, padded, entryBytes, freshEntry}
+use Rattle.record.specs.Meaning.{isEpoch, firstIndex, readHeader, isGood, recordEpoch, readRecord, isIntact, entryEpoch, entryPayload, readEntry}
 use Rattle.image.specs.Refusal.{refuse, _else_}
-use Rattle.image.specs.Image.{imageSize, recordAt, entryAt, decodeImage}
+use Rattle.image.specs.Image.{index, imageSize, recordAt, entryAt, decodeUnder, firstIn, decodeImage}
 use Rattle.image.specs.View.{condition, epochOf, conditionAt, epochAt, isBlank, isProper, isLost, logLength, noGap, noneLost, rising, imageRefusal, callRefusal, readRefusal, viewOf, isSize, isReplica, isSlots}
 use Rattle.image.specs.Read.{isWhole}
-use Rattle.image.specs.Cluster.{imageAt, imagePart, decode}
+use Rattle.image.specs.Cluster.{imageAt, imagePart, firstAt, decode}
 use Rattle.planner.specs.Setting.{settingOf, has, viewsOf}
 use Rattle.planner.specs.Rules.{majority, mayTruncate, isFaulty, isRecordLost, isUsed, isTruncate, isFetch, isWait, answers, agrees, have, dontHave, donor, rule, end, firstWaiting, answer}
 use Rattle.planner.specs.Plan.{viewsIn, shapeRefusal, clusterRefusal, lentRefusal, planRefusal}
@@ -28,7 +28,7 @@ use Rattle.example.specs.Visited.{blankedOne, tornOne, fetchedOne, twoMo
 use Rattle.example.specs.Computed.{Computed}
 
 pub computed : Computed
-unfolding four evenCluster evenTorn three scrawl waitingCluster callRefusal readRefusal five payloadA payloadB payloadC noise scratch first second third fourth fifth damagedCluster lowest count sum oneIf all part spliced same sumA sumB checksumOf digits column digitStep valueFrom valueOf sealed headerBytes recordBytes blankRecord padded entryBytes freshEntry isEpoch readHeader isGood recordEpoch readRecord isIntact entryEpoch entryPayload readEntry refuse _else_ imageSize recordAt entryAt decodeImage condition epochOf conditionAt epochAt isBlank isProper isLost logLength noGap noneLost rising imageRefusal viewOf isSize isReplica isSlots isWhole imageAt imagePart decode settingOf has viewsOf viewsIn shapeRefusal clusterRefusal lentRefusal planRefusal refusalOf budgetOf majority mayTruncate isFaulty isRecordLost isUsed isTruncate isFetch isWait answers agrees have dontHave donor rule end firstWaiting answer sameEntry _or_ ifBelow leaderStore differs firstDiffering followerStore isSome firstOf ifReady unlike due followersStore next after nextIn afterStoreBytes stepsBytes storesBytes stepResult runResult answered acceptedResult callResult blankedOne tornOne fetchedOne twoMore lastStored lastCluster readyResult
+unfolding four evenCluster evenTorn three scrawl waitingCluster callRefusal readRefusal five payloadA payloadB payloadC noise scratch first second third fourth fifth damagedCluster lowest count sum oneIf all part spliced same sumA sumB checksumOf digits column digitStep valueFrom valueOf headerSize sealed headerBytes recordBytes blankRecord padded entryBytes freshEntry isEpoch firstIndex readHeader isGood recordEpoch readRecord isIntact entryEpoch entryPayload readEntry refuse _else_ index imageSize recordAt entryAt decodeUnder firstIn decodeImage condition epochOf conditionAt epochAt isBlank isProper isLost logLength noGap noneLost rising imageRefusal viewOf isSize isReplica isSlots isWhole imageAt imagePart firstAt decode settingOf has viewsOf viewsIn shapeRefusal clusterRefusal lentRefusal planRefusal refusalOf budgetOf majority mayTruncate isFaulty isRecordLost isUsed isTruncate isFetch isWait answers agrees have dontHave donor rule end firstWaiting answer sameEntry _or_ ifBelow leaderStore differs firstDiffering followerStore isSome firstOf ifReady unlike due followersStore next after nextIn afterStoreBytes stepsBytes storesBytes stepResult runResult answered acceptedResult callResult blankedOne tornOne fetchedOne twoMore lastStored lastCluster readyResult
 computed = record {
   next-first = refl;
   next-torn = refl;
@@ -48,6 +48,7 @@ computed = record {
   go-two = refl;
   go-last = refl;
   noise-broken = refl;
+  begins = refl;
   slot-0-0 = record { rec = refl; ent = refl };
   slot-0-1 = record { rec = refl; ent = refl };
   slot-0-2 = record { rec = refl; ent = refl };
@@ -90,6 +91,7 @@ computed = record {
   no-copy-2 = refl;
   go-even = refl;
   next-even = refl;
+  even-begins = refl;
   go-even-torn = refl;
   even-0 = record { rec = refl; ent = refl };
   even-1 = record { rec = refl; ent = refl };

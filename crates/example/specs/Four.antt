@@ -3,22 +3,27 @@
 use mathlib.Core.List.{_++_}
 use Prim.Native.Nat.{_+_}
 use Rattle.slices.specs.Parts.{Bytes, spliced}
+use Rattle.record.specs.declared.Shape.{Shape}
 use Rattle.record.specs.Layout.{headerBytes, recordBytes, blankRecord, entryBytes, freshEntry}
 use Rattle.image.specs.Image.{entryAt}
 use Rattle.image.specs.Cluster.{imageAt}
 use Rattle.protocol.specs.Call.{Numbers}
 use Rattle.example.specs.Undamaged.{payloadA, payloadC, noise}
 
+-- four replicas with one slot
+abbrev pub ofFour : Shape
+ofFour = record { n = 4; m = 1 }
+
 -- leader 1, all four present
 unfoldable pub four : Numbers
-four = record { n = 4; m = 1; leader = 1; present = 15 }
+four = record { shape = ofFour; leader = 1; present = 15 }
 
 unfoldable pub evenCluster : Bytes
 evenCluster =
-    (headerBytes 1 4 1 ++ (recordBytes 2 1 ++ entryBytes 1 1 payloadC))
-    ++ ((headerBytes 2 4 1 ++ (recordBytes 2 1 ++ noise))
-    ++ ((headerBytes 3 4 1 ++ (recordBytes 2 1 ++ entryBytes 2 1 payloadA)) ++ (headerBytes 4 4 1 ++ (blankRecord ++ freshEntry))))
+    (headerBytes ofFour 1 ++ (recordBytes 2 1 ++ entryBytes 1 1 payloadC))
+    ++ ((headerBytes ofFour 2 ++ (recordBytes 2 1 ++ noise))
+    ++ ((headerBytes ofFour 3 ++ (recordBytes 2 1 ++ entryBytes 2 1 payloadA)) ++ (headerBytes ofFour 4 ++ (blankRecord ++ freshEntry))))
 
 -- the power failed while the leader's entry was fetched
 unfoldable pub evenTorn : Bytes
-evenTorn = spliced evenCluster (imageAt 1 0 + entryAt 1 0) noise
+evenTorn = spliced evenCluster (imageAt ofFour 0 + entryAt ofFour 0) noise

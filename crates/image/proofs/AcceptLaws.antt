@@ -7,11 +7,12 @@ use lib.Dec.{eqb, leb, ltb}
 use lib.ListN.{length}
 use borrow.Author.Tests.{eqb-false, ne-eqb, ltb-false, leb-false, lt-ltb, le-ltb, lt-leb}
 use Rattle.slices.specs.Parts.{Bytes, part}
+use Rattle.record.specs.declared.Shape.{Shape}
 use Rattle.record.specs.Meaning.{Record, good, blank, bad, Entry, intact, broken, readRecord, readEntry}
 use Rattle.record.proofs.RecordLaws.{good-for, epoch-low}
 use Rattle.record.proofs.EntryLaws.{intact-for}
 use Rattle.image.specs.Refusal.{refuse, _else_}
-use Rattle.image.specs.Image.{Image, imageSize, recordAt, entryAt, decodeImage}
+use Rattle.image.specs.Image.{Image, index, firstIn, imageSize, recordAt, entryAt, decodeImage}
 use Rattle.image.specs.View.{condition, epochOf, isBlank, isLost, conditionAt, epochAt, logLength, readRefusal}
 use Rattle.image.specs.Append.{lastEpoch, appendRefusal}
 use Rattle.image.specs.AppendClaim.{AtLastEpoch}
@@ -31,38 +32,38 @@ or-off-right true b e = absurd (true≢false e)
 or-off-right false b e = e
 
 -- an image that is not refused
-pub readable-size : (c n m : ℕ) (b : Bytes) → readRefusal c n m b ≡ 0 → length b ≡ imageSize m
+pub readable-size : (Z : Shape) (c : ℕ) (b : Bytes) → readRefusal Z c b ≡ 0 → length b ≡ imageSize Z c
 unfolding readRefusal
-readable-size c n m b h = called-size c n m (length b) (else-zero-l _ _ h)
+readable-size Z c b h = called-size Z c (length b) (else-zero-l _ _ h)
 
-pub readable-image : (c n m : ℕ) (b : Bytes) → readRefusal c n m b ≡ 0 → Sound m (decodeImage c n m b)
+pub readable-image : (Z : Shape) (c : ℕ) (b : Bytes) → readRefusal Z c b ≡ 0 → Sound (Z .m) (decodeImage Z c b)
 unfolding readRefusal
-readable-image c n m b h = sound-elim m (decodeImage c n m b) (else-zero-r _ _ h)
+readable-image Z c b h = sound-elim (Z .m) (decodeImage Z c b) (else-zero-r _ _ h)
 
 -- an append is accepted
-pub record Accepts (c n m : ℕ) (b : Bytes) (e size : ℕ) : Type 0 where
-  pub readable : readRefusal c n m b ≡ 0
+pub record Accepts (Z : Shape) (c : ℕ) (b : Bytes) (e size : ℕ) : Type 0 where
+  pub readable : readRefusal Z c b ≡ 0
   pub positive : 0 < e
-  pub rising : lastEpoch m (decodeImage c n m b) ≤ e
+  pub rising : lastEpoch (Z .m) (decodeImage Z c b) ≤ e
   pub short : size ≤ 200
-  pub room : logLength m (decodeImage c n m b) < m
+  pub room : logLength (Z .m) (decodeImage Z c b) < Z .m
 
-module _ (c n m : ℕ) (b : Bytes) (e size : ℕ) where
-  pub accepts-elim : appendRefusal c n m b e size ≡ 0 → Accepts c n m b e size
+module _ (Z : Shape) (c : ℕ) (b : Bytes) (e size : ℕ) where
+  pub accepts-elim : appendRefusal Z c b e size ≡ 0 → Accepts Z c b e size
   unfolding appendRefusal
   accepts-elim h = record {
-    readable = else-zero-l (readRefusal c n m b) (r8 else r9 else r10) h;
+    readable = else-zero-l (readRefusal Z c b) (r8 else r9 else r10) h;
     positive = omega (arith, eqb-false e 0 (or-off-left (eqb e 0) (ltb e last) off8));
     rising = ltb-false e last (or-off-right (eqb e 0) (ltb e last) off8);
     short = ltb-false 200 size (refuse-zero 8 (ltb 200 size) (else-zero-l r9 r10 e₂));
-    room = leb-false m len (refuse-zero 9 (leb m len) (else-zero-r r9 r10 e₂));
+    room = leb-false (Z .m) len (refuse-zero 9 (leb (Z .m) len) (else-zero-r r9 r10 e₂));
   }
     where
       last : ℕ
-      last = lastEpoch m (decodeImage c n m b)
+      last = lastEpoch (Z .m) (decodeImage Z c b)
 
       len : ℕ
-      len = logLength m (decodeImage c n m b)
+      len = logLength (Z .m) (decodeImage Z c b)
 
       r8 : ℕ
       r8 = refuse 8 (eqb e 0 || ltb e last)
@@ -71,10 +72,10 @@ module _ (c n m : ℕ) (b : Bytes) (e size : ℕ) where
       r9 = refuse 9 (ltb 200 size)
 
       r10 : ℕ
-      r10 = refuse 10 (leb m len)
+      r10 = refuse 10 (leb (Z .m) len)
 
       e₁ : (r8 else r9 else r10) ≡ 0
-      e₁ = else-zero-r (readRefusal c n m b) (r8 else r9 else r10) h
+      e₁ = else-zero-r (readRefusal Z c b) (r8 else r9 else r10) h
 
       e₂ : (r9 else r10) ≡ 0
       e₂ = else-zero-r r8 (r9 else r10) e₁
@@ -82,24 +83,24 @@ module _ (c n m : ℕ) (b : Bytes) (e size : ℕ) where
       off8 : (eqb e 0 || ltb e last) ≡ false
       off8 = refuse-zero 7 (eqb e 0 || ltb e last) (else-zero-l r8 (r9 else r10) e₁)
 
-  pub accepts-intro : Accepts c n m b e size → appendRefusal c n m b e size ≡ 0
+  pub accepts-intro : Accepts Z c b e size → appendRefusal Z c b e size ≡ 0
   unfolding appendRefusal
   accepts-intro a =
       else-zero (a .readable)
       (else-zero (refuse-off 8 (rw (ne-eqb e 0 (λ q. omega (arith, a .positive)), le-ltb e last (a .rising))))
-      (else-zero (refuse-off 9 (le-ltb 200 size (a .short))) (refuse-off 10 (lt-leb m len (a .room)))))
+      (else-zero (refuse-off 9 (le-ltb 200 size (a .short))) (refuse-off 10 (lt-leb (Z .m) len (a .room)))))
     where
       last : ℕ
-      last = lastEpoch m (decodeImage c n m b)
+      last = lastEpoch (Z .m) (decodeImage Z c b)
 
       len : ℕ
-      len = logLength m (decodeImage c n m b)
+      len = logLength (Z .m) (decodeImage Z c b)
 
   -- an epoch below the last one is refused before anything else of the append
-  pub refused-lower : readRefusal c n m b ≡ 0 → e < lastEpoch m (decodeImage c n m b) → appendRefusal c n m b e size ≡ 8
+  pub refused-lower : readRefusal Z c b ≡ 0 → e < lastEpoch (Z .m) (decodeImage Z c b) → appendRefusal Z c b e size ≡ 8
   unfolding appendRefusal
   refused-lower r h =
-      let last = lastEpoch m (decodeImage c n m b) in
+      let last = lastEpoch (Z .m) (decodeImage Z c b) in
       let low : (eqb e 0 || ltb e last) ≡ true = rw (lt-ltb e last h) (or-right (eqb e 0)) in
       let on = refuse-on 8 low in
       else-next _ r ∙ else-first _ _ (λ q. absurd (let z : _≡_ {A = ℕ} 8 0 = sym on ∙ q in omega (arith, z))) ∙ on
@@ -122,30 +123,30 @@ used-epoch k b d blank x p q u v = absurd (true≢false u)
 used-epoch k b d (bad z) (intact e y) p q u v = epoch-low e (intact-for k d e y q .epoch)
 used-epoch k b d (bad z) (broken y) p q u v = absurd (true≢false v)
 
-module _ (c n m : ℕ) (b : Bytes) (s : Sound m (decodeImage c n m b)) where
-  pub epoch-positive : (k : ℕ) → k < logLength m (decodeImage c n m b) → 0 < epochAt (decodeImage c n m b) k
+module _ (Z : Shape) (c : ℕ) (b : Bytes) (s : Sound (Z .m) (decodeImage Z c b)) where
+  pub epoch-positive : (k : ℕ) → k < logLength (Z .m) (decodeImage Z c b) → 0 < epochAt (decodeImage Z c b) k
   unfolding epochAt
   epoch-positive k h =
-      let i = decodeImage c n m b in
-      let km : k < m = omega (arith, length-le m i) in
-      used-epoch (suc k) (part b (recordAt k) 34) (part b (entryAt m k) 240) (i .records k) (i .entries k)
-      (sym (record-there c n m b k km)) (sym (entry-there c n m b k km)) (used-below m i k h) (unfold conditionAt in s .kept k km)
+      let i = decodeImage Z c b in
+      let km : k < Z .m = omega (arith, length-le (Z .m) i) in
+      used-epoch (index (firstIn Z c b) k) (part b (recordAt Z k) 34) (part b (entryAt Z k) 240) (i .records k) (i .entries k)
+      (sym (record-there Z c b k km)) (sym (entry-there Z c b k km)) (used-below (Z .m) i k h) (unfold conditionAt in s .kept k km)
 
-  pub last-positive : 0 < logLength m (decodeImage c n m b) → 0 < lastEpoch m (decodeImage c n m b)
+  pub last-positive : 0 < logLength (Z .m) (decodeImage Z c b) → 0 < lastEpoch (Z .m) (decodeImage Z c b)
   last-positive h =
-      let j = logLength m (decodeImage c n m b) - 1 in
-      rw (last-epoch m (decodeImage c n m b) j (omega arith)) (epoch-positive j (omega arith))
+      let j = logLength (Z .m) (decodeImage Z c b) - 1 in
+      rw (last-epoch (Z .m) (decodeImage Z c b) j (omega arith)) (epoch-positive j (omega arith))
 
-  pub rising-last : (e : ℕ) → lastEpoch m (decodeImage c n m b) ≤ e → (j : ℕ) → suc j ≡ logLength m (decodeImage c n m b) → epochAt (decodeImage c n m b) j ≤ e
-  rising-last e h j q = rw (last-epoch m (decodeImage c n m b) j q) at h
+  pub rising-last : (e : ℕ) → lastEpoch (Z .m) (decodeImage Z c b) ≤ e → (j : ℕ) → suc j ≡ logLength (Z .m) (decodeImage Z c b) → epochAt (decodeImage Z c b) j ≤ e
+  rising-last e h j q = rw (last-epoch (Z .m) (decodeImage Z c b) j q) at h
 
 -- at the last epoch, and one lower
-pub last-epoch-again : (c n m : ℕ) (b : Bytes) (size : ℕ) → readRefusal c n m b ≡ 0 → 0 < logLength m (decodeImage c n m b)
-    → logLength m (decodeImage c n m b) < m → size ≤ 200 → AtLastEpoch c n m b size
-last-epoch-again c n m b size r h l z =
-    let s = readable-image c n m b r in
-    let p = last-positive c n m b s h in
+pub last-epoch-again : (Z : Shape) (c : ℕ) (b : Bytes) (size : ℕ) → readRefusal Z c b ≡ 0 → 0 < logLength (Z .m) (decodeImage Z c b)
+    → logLength (Z .m) (decodeImage Z c b) < Z .m → size ≤ 200 → AtLastEpoch Z c b size
+last-epoch-again Z c b size r h l z =
+    let s = readable-image Z c b r in
+    let p = last-positive Z c b s h in
     record {
-      same = accepts-intro c n m b _ size (record { readable = r; positive = p; rising = omega arith; short = z; room = l });
-      lower = refused-lower c n m b _ size r (omega (arith, p));
+      same = accepts-intro Z c b _ size (record { readable = r; positive = p; rising = omega arith; short = z; room = l });
+      lower = refused-lower Z c b _ size r (omega (arith, p));
     }

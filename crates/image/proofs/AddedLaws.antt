@@ -54,6 +54,10 @@ module _ (m : ℕ) (i : Image) (l e : ℕ) (p : Bytes) where
   unfolding added epochOf
   added-epoch = record-epoch m (setEntry i l (intact e p)) l (good e)
 
+  pub added-header : added i l e p .header ≡ i .header
+  unfolding added setRecord setEntry
+  added-header = refl
+
   pub added-entry : added i l e p .entries l ≡ intact e p
   unfolding added setRecord setEntry
   added-entry = put-same (i .entries) l (intact e p)

@@ -12,11 +12,13 @@ use borrow.Author.Tests.{eq-eqb, ne-eqb, lt-ltb, le-ltb, le-leb, lt-leb}
 use Rattle.search.specs.Search.{joined}
 use Rattle.slices.specs.Parts.{Bytes, spliced}
 use Rattle.slices.proofs.SpliceLaws.{length-spliced}
-use Rattle.record.specs.Layout.{headerBytes, recordBytes, blankRecord, entryBytes, freshEntry}
+use Rattle.record.specs.declared.Shape.{Shape}
+use Rattle.record.specs.Layout.{headerSize, headerBytes, recordBytes, blankRecord, entryBytes, freshEntry}
+use Rattle.record.specs.Meaning.{firstIndex}
 use Rattle.record.proofs.LayoutLaws.{length-header, length-entry}
 use Rattle.record.proofs.WriteLaws.{start, then, whole}
 use Rattle.image.specs.Refusal.{refuse, _else_}
-use Rattle.image.specs.Image.{Image, imageSize, recordAt, entryAt, decodeImage, freshImage}
+use Rattle.image.specs.Image.{Image, index, imageSize, recordAt, entryAt, decodeImage, freshImage}
 use Rattle.image.specs.View.{epochAt, logLength, callRefusal, imageRefusal, readRefusal}
 use Rattle.image.specs.Seen.{Seen}
 use Rattle.image.specs.Append.{lastEpoch, appendRefusal, stored, appended, formatted}
@@ -25,48 +27,48 @@ use Rattle.image.proofs.RefusalLaws.{else-next, else-first}
 use Rattle.image.proofs.CallLaws.{slots-high, called-slots, called-size}
 use Rattle.image.proofs.ViewLaws.{length-le}
 use Rattle.image.proofs.ScannedLaws.{taken-at}
-use Rattle.image.proofs.DecodeLaws.{size-is, record-fits, entry-fits}
+use Rattle.image.proofs.DecodeLaws.{size-is, entries-end, record-ends, entry-ends, first-is}
 use Rattle.image.proofs.AcceptLaws.{accepts-elim}
 use Rattle.image.proofs.FreshLaws.{length-records, length-entries, length-fresh-image}
 
 -- ---- formatting
 
-module _ (c n m : ℕ) (b : Bytes) {r : ℕ} (is : r ≡ callRefusal c n m (length b)) where
-  pub format-refused : ¬ (r ≡ 0) → (refused r ≡ formatCallNumbers c n m (length b)) × (b ≡ formatted c n m b)
+module _ (Z : Shape) (c : ℕ) (b : Bytes) {r : ℕ} (is : r ≡ callRefusal Z c (length b)) where
+  pub format-refused : ¬ (r ≡ 0) → (refused r ≡ formatCallNumbers Z c (length b)) × (b ≡ formatted Z c b)
   unfolding numbered formatted
   format-refused h = let off = ne-eqb r 0 h in (sym (rw (← is, off)), sym (rw (← is, off)))
 
   module _ (free : r ≡ 0) where
-    pub format-few : m ≤ 64
-    format-few = slots-high m (called-slots c n m (length b) (sym is ∙ free))
+    pub format-few : Z .m ≤ 64
+    format-few = slots-high (Z .m) (called-slots Z c (length b) (sym is ∙ free))
 
-    pub format-size : length b ≡ 28 + 34 * m + 240 * m
-    format-size = called-size c n m (length b) (sym is ∙ free) ∙ size-is m
+    pub format-size : length b ≡ headerSize Z + 34 * Z .m + 240 * Z .m
+    format-size = called-size Z c (length b) (sym is ∙ free) ∙ size-is Z c
 
-    pub headed-size : {x : Bytes} → x ≡ spliced b 0 (headerBytes c n m) → length x ≡ 28 + 34 * m + 240 * m
-    headed-size p = ap length p ∙ length-spliced b 0 (headerBytes c n m) (omega (arith, length-header c n m, format-size)) ∙ format-size
+    pub headed-size : {x : Bytes} → x ≡ spliced b 0 (headerBytes Z c) → length x ≡ headerSize Z + 34 * Z .m + 240 * Z .m
+    headed-size p = ap length p ∙ length-spliced b 0 (headerBytes Z c) (omega (arith, length-header Z c, format-size)) ∙ format-size
 
-    pub blanked-size : {x y : Bytes} → x ≡ spliced b 0 (headerBytes c n m) → y ≡ spliced x 28 (joined m (λ k. blankRecord)) → length y ≡ 28 + 34 * m + 240 * m
-    blanked-size {x} p q = ap length q ∙ length-spliced x 28 (joined m (λ k. blankRecord)) (omega (arith, length-records m, headed-size p)) ∙ headed-size p
+    pub blanked-size : {x y : Bytes} → x ≡ spliced b 0 (headerBytes Z c) → y ≡ spliced x (headerSize Z) (joined (Z .m) (λ k. blankRecord)) → length y ≡ headerSize Z + 34 * Z .m + 240 * Z .m
+    blanked-size {x} p q = ap length q ∙ length-spliced x (headerSize Z) (joined (Z .m) (λ k. blankRecord)) (omega (arith, length-records (Z .m), headed-size p)) ∙ headed-size p
 
-  pub format-done : r ≡ 0 → {x y z : Bytes} → x ≡ spliced b 0 (headerBytes c n m) → y ≡ spliced x 28 (joined m (λ k. blankRecord))
-      → z ≡ spliced y (28 + 34 * m) (joined m (λ k. freshEntry)) → (value tt ≡ formatCallNumbers c n m (length b)) × (z ≡ formatted c n m b)
+  pub format-done : r ≡ 0 → {x y z : Bytes} → x ≡ spliced b 0 (headerBytes Z c) → y ≡ spliced x (headerSize Z) (joined (Z .m) (λ k. blankRecord))
+      → z ≡ spliced y (headerSize Z + 34 * Z .m) (joined (Z .m) (λ k. freshEntry)) → (value tt ≡ formatCallNumbers Z c (length b)) × (z ≡ formatted Z c b)
   unfolding numbered formatted
   format-done h {x} {y} {z} p q s = (sym (rw (← is, h)), made ∙ sym (rw (← is, h)))
     where
-      head : length (headerBytes c n m) ≡ 28
-      head = length-header c n m
+      head : length (headerBytes Z c) ≡ headerSize Z
+      head = length-header Z c
 
-      records : length (headerBytes c n m ++ joined m (λ k. blankRecord)) ≡ 28 + 34 * m
-      records = length-append (headerBytes c n m) (joined m (λ k. blankRecord)) ∙ omega (arith, head, length-records m)
+      records : length (headerBytes Z c ++ joined (Z .m) (λ k. blankRecord)) ≡ headerSize Z + 34 * Z .m
+      records = length-append (headerBytes Z c) (joined (Z .m) (λ k. blankRecord)) ∙ omega (arith, head, length-records (Z .m))
 
-      made : z ≡ freshImage c n m
+      made : z ≡ freshImage Z c
       made =
           unfold freshImage in
-          (let x = then (28 + 34 * m + 240 * m) 0 (headerBytes c n m) (start _ b (format-size h)) refl (omega (arith, head)) p in
-          let y = then (28 + 34 * m + 240 * m) 28 (joined m (λ k. blankRecord)) x head (omega (arith, length-records m)) q in
-          let z = then (28 + 34 * m + 240 * m) (28 + 34 * m) (joined m (λ k. freshEntry)) y records (omega (arith, length-entries m)) s in
-          whole z (length-fresh-image c n m ∙ size-is m))
+          (let x = then (headerSize Z + 34 * Z .m + 240 * Z .m) 0 (headerBytes Z c) (start _ b (format-size h)) refl (omega (arith, head)) p in
+          let y = then (headerSize Z + 34 * Z .m + 240 * Z .m) (headerSize Z) (joined (Z .m) (λ k. blankRecord)) x head (omega (arith, length-records (Z .m))) q in
+          let z = then (headerSize Z + 34 * Z .m + 240 * Z .m) (headerSize Z + 34 * Z .m) (joined (Z .m) (λ k. freshEntry)) y records (omega (arith, length-entries (Z .m))) s in
+          whole z (length-fresh-image Z c ∙ size-is Z c))
 
 -- ---- appending: refusals 8 to 10
 
@@ -98,9 +100,9 @@ module _ (last len m e size : ℕ) where
         deny-none h = sym (rw (ne-eqb e 0 p, le-ltb e last q, le-ltb 200 size s, lt-leb m len h))
 
 -- the last epoch as the scan has it
-pub last-seen : (m : ℕ) (i : Image) {len : ℕ} {cs es : List ℕ} → Seen m i len cs es → cond (eqb len 0) 0 (getD es (0 + len - 1) 0) ≡ lastEpoch m i
+pub last-seen : (m : ℕ) (i : Image) {first len : ℕ} {cs es : List ℕ} → Seen m i first len cs es → cond (eqb len 0) 0 (getD es (0 + len - 1) 0) ≡ lastEpoch m i
 unfolding lastEpoch
-last-seen m i {len} {es = es} s =
+last-seen m i {len = len} {es = es} s =
     let z : 0 + len ≡ len = omega arith in
     rw (z, ← s .length-is) (go (ℕ-discrete len 0))
   where
@@ -112,65 +114,66 @@ last-seen m i {len} {es = es} s =
 
 -- ---- appending: which refusal it is
 
-module _ (c n m : ℕ) (b : Bytes) (e size : ℕ) {r : ℕ} (call : r ≡ callRefusal c n m (length b)) where
-  pub refused-call : ¬ (r ≡ 0) → appendRefusal c n m b e size ≡ r
+module _ (Z : Shape) (c : ℕ) (b : Bytes) (e size : ℕ) {r : ℕ} (call : r ≡ callRefusal Z c (length b)) where
+  pub refused-call : ¬ (r ≡ 0) → appendRefusal Z c b e size ≡ r
   unfolding appendRefusal readRefusal
   refused-call h =
-      let z : callRefusal c n m (length b) ≡ r = sym call in
-      let w = else-first (callRefusal c n m (length b)) (imageRefusal m (decodeImage c n m b)) (λ q. h (call ∙ q)) in
+      let z : callRefusal Z c (length b) ≡ r = sym call in
+      let w = else-first (callRefusal Z c (length b)) (imageRefusal (Z .m) (decodeImage Z c b)) (λ q. h (call ∙ q)) in
       else-first _ _ (λ q. h (call ∙ sym w ∙ q)) ∙ w ∙ z
 
-  module _ (free : r ≡ 0) {v : ℕ} (image : v ≡ imageRefusal m (decodeImage c n m b)) where
-    reading : readRefusal c n m b ≡ v
+  module _ (free : r ≡ 0) {v : ℕ} (image : v ≡ imageRefusal (Z .m) (decodeImage Z c b)) where
+    reading : readRefusal Z c b ≡ v
     unfolding readRefusal
     reading = else-next _ (sym call ∙ free) ∙ sym image
 
-    pub refused-image : ¬ (v ≡ 0) → appendRefusal c n m b e size ≡ v
+    pub refused-image : ¬ (v ≡ 0) → appendRefusal Z c b e size ≡ v
     unfolding appendRefusal
     refused-image h = else-first _ _ (λ q. h (sym reading ∙ q)) ∙ reading
 
-    pub refused-append : {len last d : ℕ} {cs es : List ℕ} → v ≡ 0 → Seen m (decodeImage c n m b) len cs es → last ≡ cond (eqb len 0) 0 (getD es (0 + len - 1) 0)
-        → d ≡ (refuse 8 (eqb e 0 || ltb e last) else refuse 9 (ltb 200 size) else refuse 10 (leb m len)) → appendRefusal c n m b e size ≡ d
+    pub refused-append : {first len last d : ℕ} {cs es : List ℕ} → v ≡ 0 → Seen (Z .m) (decodeImage Z c b) first len cs es → last ≡ cond (eqb len 0) 0 (getD es (0 + len - 1) 0)
+        → d ≡ (refuse 8 (eqb e 0 || ltb e last) else refuse 9 (ltb 200 size) else refuse 10 (leb (Z .m) len)) → appendRefusal Z c b e size ≡ d
     unfolding appendRefusal
-    refused-append h s l k = else-next _ (reading ∙ h) ∙ sym (rw (l ∙ last-seen m (decodeImage c n m b) s, s .length-is) at k)
+    refused-append h s l k = else-next _ (reading ∙ h) ∙ sym (rw (l ∙ last-seen (Z .m) (decodeImage Z c b) s, s .length-is) at k)
 
     -- an append that goes on
-    module _ {len : ℕ} {cs es : List ℕ} (readable : v ≡ 0) (s : Seen m (decodeImage c n m b) len cs es) where
+    module _ {first len : ℕ} {cs es : List ℕ} (readable : v ≡ 0) (s : Seen (Z .m) (decodeImage Z c b) first len cs es) where
       pub used-few : len ≤ 64
-      used-few = omega (arith, s .length-is, length-le m (decodeImage c n m b), slots-high m (called-slots c n m (length b) (sym call ∙ free)))
+      used-few = omega (arith, s .length-is, length-le (Z .m) (decodeImage Z c b), slots-high (Z .m) (called-slots Z c (length b) (sym call ∙ free)))
 
       pub slot-free : {last d : ℕ} → last ≡ cond (eqb len 0) 0 (getD es (0 + len - 1) 0)
-          → d ≡ (refuse 8 (eqb e 0 || ltb e last) else refuse 9 (ltb 200 size) else refuse 10 (leb m len)) → d ≡ 0
-          → (m ≤ 64) × (len < m) × (length b ≡ imageSize m) × (size ≤ 200)
+          → d ≡ (refuse 8 (eqb e 0 || ltb e last) else refuse 9 (ltb 200 size) else refuse 10 (leb (Z .m) len)) → d ≡ 0
+          → (Z .m ≤ 64) × (len < Z .m) × (entryAt Z (Z .m) ≤ length b) × (size ≤ 200)
       slot-free l k z =
-          let a = accepts-elim c n m b e size (refused-append readable s l k ∙ z) in
-          (slots-high m (called-slots c n m (length b) (sym call ∙ free)), omega (arith, s .length-is, a .room), called-size c n m (length b) (sym call ∙ free), a .short)
+          let a = accepts-elim Z c b e size (refused-append readable s l k ∙ z) in
+          (slots-high (Z .m) (called-slots Z c (length b) (sym call ∙ free)), omega (arith, s .length-is, a .room), omega (arith, called-size Z c (length b) (sym call ∙ free), entries-end Z c), a .short)
 
 -- ---- appending: the slot
 
-module _ (m k : ℕ) (b : Bytes) (km : k < m) (size : length b ≡ imageSize m) {at : ℕ} (place : at ≡ entryAt m k) where
+module _ (Z : Shape) (first k : ℕ) (b : Bytes) (km : k < Z .m) (size : entryAt Z (Z .m) ≤ length b) {at : ℕ} (place : at ≡ entryAt Z k) where
   pub entry-room : at + 240 ≤ length b
-  entry-room = omega (arith, entry-fits m k km)
+  entry-room = omega (arith, entry-ends Z k km)
 
-  module _ (e : ℕ) (p : Bytes) (short : length p ≤ 200) {x : Bytes} (q : x ≡ spliced b at (entryBytes e (k + 1) p)) {on : ℕ} (line : on ≡ recordAt k) where
+  module _ (e : ℕ) (p : Bytes) (short : length p ≤ 200) {j : ℕ} (i : j ≡ index first k) {x : Bytes} (q : x ≡ spliced b at (entryBytes e j p)) {on : ℕ} (line : on ≡ recordAt Z k) where
     pub record-room : on + 34 ≤ length x
     record-room =
-        let l = length-spliced b at (entryBytes e (k + 1) p) (omega (arith, length-entry e (k + 1) p short, entry-room)) in
-        omega (arith, ap length q, l, record-fits m k km)
+        let l = length-spliced b at (entryBytes e j p) (omega (arith, length-entry e j p short, entry-room)) in
+        omega (arith, ap length q, l, record-ends Z k km)
 
-    pub slot-stored : {y : Bytes} → y ≡ spliced x on (recordBytes e (k + 1)) → y ≡ stored m b k e p
+    pub slot-stored : {y : Bytes} → y ≡ spliced x on (recordBytes e j) → y ≡ stored Z first b k e p
     unfolding stored
-    slot-stored r = rw (r, q, add-one, place, line)
+    slot-stored r = rw (r, q, i, place, line)
 
 -- ---- appending: what is answered and left
 
-module _ (c n m : ℕ) (b : Bytes) (e : ℕ) (p : Bytes) {r : ℕ} (is : appendRefusal c n m b e (length p) ≡ r) where
+module _ (Z : Shape) (c : ℕ) (b : Bytes) (e : ℕ) (p : Bytes) {r : ℕ} (is : appendRefusal Z c b e (length p) ≡ r) where
   pub append-refused : ¬ (r ≡ 0)
-      → (refused r ≡ numbered (appendRefusal c n m b e (length p)) (suc (logLength m (decodeImage c n m b)))) × (b ≡ appended c n m b e p)
+      → (refused r ≡ numbered (appendRefusal Z c b e (length p)) (suc (logLength (Z .m) (decodeImage Z c b)))) × (b ≡ appended Z c b e p)
   unfolding numbered appended
   append-refused h = let off = ne-eqb r 0 h in (sym (rw (is, off)), sym (rw (is, off)))
 
-  pub append-done : r ≡ 0 → {k : ℕ} {d : Bytes} → k ≡ logLength m (decodeImage c n m b) → d ≡ stored m b k e p
-      → (value (k + 1) ≡ numbered (appendRefusal c n m b e (length p)) (suc (logLength m (decodeImage c n m b)))) × (d ≡ appended c n m b e p)
+  pub append-done : r ≡ 0 → {first k : ℕ} {d : Bytes} → first ≡ firstIndex (decodeImage Z c b .header) → k ≡ logLength (Z .m) (decodeImage Z c b)
+      → d ≡ stored Z first b k e p
+      → (value (k + 1) ≡ numbered (appendRefusal Z c b e (length p)) (suc (logLength (Z .m) (decodeImage Z c b)))) × (d ≡ appended Z c b e p)
   unfolding numbered appended
-  append-done h q s = (sym (rw (is, h, ← q, add-one)), rw (is, h, ← q) s)
+  append-done h f q s = (sym (rw (is, h, ← q, add-one)), rw (is, h, ← q, ← first-is Z c b, ← f) s)

@@ -6,6 +6,7 @@ use native.Mathlib.Omega.{arith}
 use lib.Dec.{eqb, leb}
 use borrow.Author.Tests.{leb-true, le-leb, lt-leb, eqb-true, eq-eqb, ne-eqb, not-false}
 use Rattle.slices.proofs.SameLaws.{and-left, and-right, and-off}
+use Rattle.record.specs.declared.Shape.{Shape}
 use Rattle.image.specs.Refusal.{refuse, _else_}
 use Rattle.image.specs.Image.{imageSize}
 use Rattle.image.specs.View.{isSize, isReplica, isSlots, callRefusal}
@@ -90,44 +91,44 @@ module _ (n c : ℕ) where
 
 -- ---- the refusals
 
-module _ (c n m size : ℕ) where
-  pub call-slots : isSlots m ≡ false → 1 ≡ callRefusal c n m size
+module _ (Z : Shape) (c size : ℕ) where
+  pub call-slots : isSlots (Z .m) ≡ false → 1 ≡ callRefusal Z c size
   unfolding callRefusal refuse _else_
   call-slots h = sym (rw h)
 
-  module _ (slots : isSlots m ≡ true) where
-    pub call-size : isSize n ≡ false → 2 ≡ callRefusal c n m size
+  module _ (slots : isSlots (Z .m) ≡ true) where
+    pub call-size : isSize (Z .n) ≡ false → 2 ≡ callRefusal Z c size
     unfolding callRefusal refuse _else_
     call-size h = sym (rw (slots, h))
 
-    pub call-replica : isReplica n c ≡ false → 2 ≡ callRefusal c n m size
+    pub call-replica : isReplica (Z .n) c ≡ false → 2 ≡ callRefusal Z c size
     unfolding callRefusal refuse _else_
-    call-replica h = sym (rw (slots, h, and-off (isSize n)))
+    call-replica h = sym (rw (slots, h, and-off (isSize (Z .n))))
 
-    module _ (sizes : isSize n ≡ true) (replica : isReplica n c ≡ true) where
-      pub call-bytes : ¬ (size ≡ imageSize m) → 3 ≡ callRefusal c n m size
+    module _ (sizes : isSize (Z .n) ≡ true) (replica : isReplica (Z .n) c ≡ true) where
+      pub call-bytes : ¬ (size ≡ imageSize Z c) → 3 ≡ callRefusal Z c size
       unfolding callRefusal refuse _else_
-      call-bytes h = sym (rw (slots, sizes, replica, ne-eqb size (imageSize m) h))
+      call-bytes h = sym (rw (slots, sizes, replica, ne-eqb size (imageSize Z c) h))
 
-      pub call-none : size ≡ imageSize m → 0 ≡ callRefusal c n m size
+      pub call-none : size ≡ imageSize Z c → 0 ≡ callRefusal Z c size
       unfolding callRefusal refuse _else_
-      call-none h = sym (rw (slots, sizes, replica, eq-eqb size (imageSize m) h))
+      call-none h = sym (rw (slots, sizes, replica, eq-eqb size (imageSize Z c) h))
 
 -- what holds of a call that is not refused
-module _ (c n m size : ℕ) (none : callRefusal c n m size ≡ 0) where
+module _ (Z : Shape) (c size : ℕ) (none : callRefusal Z c size ≡ 0) where
   abbrev r1 : ℕ
-  r1 = refuse 1 (not (isSlots m))
+  r1 = refuse 1 (not (isSlots (Z .m)))
 
   abbrev r2 : ℕ
-  r2 = refuse 2 (not (isSize n && isReplica n c))
+  r2 = refuse 2 (not (isSize (Z .n) && isReplica (Z .n) c))
 
   abbrev r3 : ℕ
-  r3 = refuse 3 (not (eqb size (imageSize m)))
+  r3 = refuse 3 (not (eqb size (imageSize Z c)))
 
-  pub called-slots : isSlots m ≡ true
+  pub called-slots : isSlots (Z .m) ≡ true
   unfolding callRefusal
   called-slots = not-false _ (refuse-zero 0 _ (else-zero-l r1 (r2 else r3) none))
 
-  pub called-size : size ≡ imageSize m
+  pub called-size : size ≡ imageSize Z c
   unfolding callRefusal
-  called-size = eqb-true size (imageSize m) (not-false _ (refuse-zero 2 _ (else-zero-r r2 r3 (else-zero-r r1 (r2 else r3) none))))
+  called-size = eqb-true size (imageSize Z c) (not-false _ (refuse-zero 2 _ (else-zero-r r2 r3 (else-zero-r r1 (r2 else r3) none))))

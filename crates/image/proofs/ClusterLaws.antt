@@ -1,95 +1,119 @@
 -- A cluster in bytes and taken apart: a splice inside one replica's image is one replica put anew.
-use Prim.Native.Nat.{ℕ, suc, _+_, _*_, _≤_, _<_}
-use mathlib.Core.Path.{_≡_, refl, ap, _∙_, fun-ext}
+use Prim.Native.Nat.{ℕ, zero, suc, _+_, _*_, _≤_, _<_}
+use mathlib.Core.Path.{_≡_, refl, sym, ap, _∙_, fun-ext}
 use native.Mathlib.Omega.{arith}
-use native.Mathlib.Nat.{mul-le-mul-left}
+use native.Mathlib.Nat.{mul-zero, mul-suc}
 use native.Mathlib.Decide.{ℕ-discrete, decLt}
 use lib.ListN.{length}
+use Rattle.search.specs.Search.{sum}
 use Rattle.search.specs.Put.{put}
 use Rattle.search.proofs.UpdateLaws.{put-same, put-other}
 use Rattle.slices.specs.Parts.{Bytes, part, spliced}
 use Rattle.slices.proofs.PartLaws.{length-part, part-part}
 use Rattle.slices.proofs.SpliceLaws.{length-spliced, spliced-before, spliced-behind}
 use Rattle.slices.proofs.NestedLaws.{part-spliced}
+use Rattle.record.specs.declared.Shape.{Shape}
 use Rattle.record.specs.Meaning.{readRecord, readEntry}
-use Rattle.image.specs.Image.{Image, imageSize, recordAt, entryAt, decodeImage}
+use Rattle.image.specs.Image.{Image, index, imageSize, recordAt, entryAt, decodeImage}
 use Rattle.image.specs.SetSlot.{setRecord, setEntry}
-use Rattle.image.specs.Cluster.{imageAt, imagePart, decode}
-use Rattle.image.proofs.DecodeLaws.{record-fits, entry-fits, record-there, entry-there, record-spliced, entry-spliced}
+use Rattle.image.specs.Cluster.{imageAt, imagePart, firstAt, decode}
+use Rattle.image.proofs.DecodeLaws.{size-some, record-fits, entry-fits, record-there, entry-there, record-spliced, entry-spliced}
 
-pub image-at : (m c : ℕ) → imageAt m c ≡ imageSize m * c
-unfolding imageAt
-image-at m c = refl
+-- every replica has an image of one size
+same-size : (Z : Shape) (c d : ℕ) → imageSize Z (suc c) ≡ imageSize Z (suc d)
+unfolding imageSize
+same-size Z c d = refl
+
+-- behind c images of one size
+pub image-at : (Z : Shape) (c : ℕ) → imageAt Z c ≡ imageSize Z 1 * c
+unfolding imageAt sum
+image-at Z zero = sym (mul-zero (imageSize Z 1))
+image-at Z (suc c) = rw (mul-suc (imageSize Z 1) c, ← image-at Z c, ← same-size Z c 0) (unfold imageAt in omega arith)
+
+pub image-next : (Z : Shape) (c : ℕ) → imageAt Z (suc c) ≡ imageAt Z c + imageSize Z (suc c)
+unfolding imageAt sum
+image-next Z c = omega arith
+
+-- so many images have at least as many bytes
+pub images-fill : (Z : Shape) (c : ℕ) → c ≤ imageAt Z c
+images-fill Z zero = omega arith
+images-fill Z (suc c) = omega (arith, images-fill Z c, image-next Z c, size-some Z (suc c))
 
 -- an image lies within the buffer
-pub image-fits : (n m c : ℕ) → c < n → imageAt m c + imageSize m ≤ imageAt m n
-unfolding imageAt
-image-fits n m c h = omega (arith, mul-le-mul-left (imageSize m) h)
+pub image-fits : (Z : Shape) (n c : ℕ) → c < n → imageAt Z c + imageSize Z (suc c) ≤ imageAt Z n
+image-fits Z zero c h = absurd (omega arith)
+image-fits Z (suc n) c h = go (ℕ-discrete c n) (image-fits Z n c)
+  where
+    go : Dec (c ≡ n) → (c < n → imageAt Z c + imageSize Z (suc c) ≤ imageAt Z n) → imageAt Z c + imageSize Z (suc c) ≤ imageAt Z (suc n)
+    go (yes q) below = rw q (omega (arith, image-next Z n))
+    go (no q) below = omega (arith, image-next Z n, below (omega arith))
 
 -- the bytes of a slot, in its image and in the buffer
-pub record-part : (m : ℕ) (b : Bytes) (c k : ℕ) → k < m → part (imagePart m b c) (recordAt k) 34 ≡ part b (imageAt m c + recordAt k) 34
+pub record-part : (Z : Shape) (b : Bytes) (c k : ℕ) → k < Z .m → part (imagePart Z b c) (recordAt Z k) 34 ≡ part b (imageAt Z c + recordAt Z k) 34
 unfolding imagePart
-record-part m b c k h = part-part b (imageAt m c) (imageSize m) (recordAt k) 34 (record-fits m k h)
+record-part Z b c k h = part-part b (imageAt Z c) (imageSize Z (suc c)) (recordAt Z k) 34 (record-fits Z (suc c) k h)
 
-pub entry-part : (m : ℕ) (b : Bytes) (c k : ℕ) → k < m → part (imagePart m b c) (entryAt m k) 240 ≡ part b (imageAt m c + entryAt m k) 240
+pub entry-part : (Z : Shape) (b : Bytes) (c k : ℕ) → k < Z .m → part (imagePart Z b c) (entryAt Z k) 240 ≡ part b (imageAt Z c + entryAt Z k) 240
 unfolding imagePart
-entry-part m b c k h = part-part b (imageAt m c) (imageSize m) (entryAt m k) 240 (entry-fits m k h)
+entry-part Z b c k h = part-part b (imageAt Z c) (imageSize Z (suc c)) (entryAt Z k) 240 (entry-fits Z (suc c) k h)
 
 -- what they mean
-pub record-means : (n m : ℕ) (b : Bytes) (c k : ℕ) → k < m → decode n m b c .records k ≡ readRecord (suc k) (part b (imageAt m c + recordAt k) 34)
-unfolding decode
-record-means n m b c k h = record-there (suc c) n m (imagePart m b c) k h ∙ ap (readRecord (suc k)) (record-part m b c k h)
+pub record-means : (Z : Shape) (b : Bytes) (c k : ℕ) → k < Z .m → decode Z b c .records k ≡ readRecord (index (firstAt Z b c) k) (part b (imageAt Z c + recordAt Z k) 34)
+unfolding decode firstAt
+record-means Z b c k h = record-there Z (suc c) (imagePart Z b c) k h ∙ ap (readRecord (index (firstAt Z b c) k)) (record-part Z b c k h)
 
-pub entry-means : (n m : ℕ) (b : Bytes) (c k : ℕ) → k < m → decode n m b c .entries k ≡ readEntry (suc k) (part b (imageAt m c + entryAt m k) 240)
-unfolding decode
-entry-means n m b c k h = entry-there (suc c) n m (imagePart m b c) k h ∙ ap (readEntry (suc k)) (entry-part m b c k h)
+pub entry-means : (Z : Shape) (b : Bytes) (c k : ℕ) → k < Z .m → decode Z b c .entries k ≡ readEntry (index (firstAt Z b c) k) (part b (imageAt Z c + entryAt Z k) 240)
+unfolding decode firstAt
+entry-means Z b c k h = entry-there Z (suc c) (imagePart Z b c) k h ∙ ap (readEntry (index (firstAt Z b c) k)) (entry-part Z b c k h)
 
-module _ (n m : ℕ) (b : Bytes) (size : length b ≡ imageAt m n) where
-  pub length-image : (c : ℕ) → c < n → length (imagePart m b c) ≡ imageSize m
+module _ (Z : Shape) (b : Bytes) (size : length b ≡ imageAt Z (Z .n)) where
+  pub length-image : (c : ℕ) → c < Z .n → length (imagePart Z b c) ≡ imageSize Z (suc c)
   unfolding imagePart
-  length-image c h = length-part b (imageAt m c) (imageSize m) (omega (arith, image-fits n m c h))
+  length-image c h = length-part b (imageAt Z c) (imageSize Z (suc c)) (omega (arith, image-fits Z (Z .n) c h))
 
   -- ---- a splice inside the image of replica c
-  module _ (c : ℕ) (cn : c < n) (o : ℕ) (v : Bytes) (within : o + length v ≤ imageSize m) where
-    room : imageAt m c + o + length v ≤ length b
-    room = omega (arith, image-fits n m c cn)
+  module _ (c : ℕ) (cn : c < Z .n) (o : ℕ) (v : Bytes) (within : o + length v ≤ imageSize Z (suc c)) where
+    room : imageAt Z c + o + length v ≤ length b
+    room = omega (arith, image-fits Z (Z .n) c cn)
 
-    pub length-in-image : length (spliced b (imageAt m c + o) v) ≡ imageAt m n
-    length-in-image = length-spliced b (imageAt m c + o) v room ∙ size
+    pub length-in-image : length (spliced b (imageAt Z c + o) v) ≡ imageAt Z (Z .n)
+    length-in-image = length-spliced b (imageAt Z c + o) v room ∙ size
 
-    pub own-part : imagePart m (spliced b (imageAt m c + o) v) c ≡ spliced (imagePart m b c) o v
+    pub own-part : imagePart Z (spliced b (imageAt Z c + o) v) c ≡ spliced (imagePart Z b c) o v
     unfolding imagePart
-    own-part = part-spliced b (imageAt m c) (imageSize m) o v (omega (arith, image-fits n m c cn)) within
+    own-part = part-spliced b (imageAt Z c) (imageSize Z (suc c)) o v (omega (arith, image-fits Z (Z .n) c cn)) within
 
-    pub other-part : (d : ℕ) → (d ≡ c → ⊥) → imagePart m (spliced b (imageAt m c + o) v) d ≡ imagePart m b d
+    pub other-part : (d : ℕ) → (d ≡ c → ⊥) → imagePart Z (spliced b (imageAt Z c + o) v) d ≡ imagePart Z b d
     unfolding imagePart
     other-part d q = go (decLt d c)
       where
-        go : Dec (d < c) → part (spliced b (imageAt m c + o) v) (imageAt m d) (imageSize m) ≡ part b (imageAt m d) (imageSize m)
-        go (yes w) = spliced-before b (imageAt m c + o) v room (imageAt m d) (imageSize m) (omega (arith, image-fits c m d w))
+        go : Dec (d < c) → part (spliced b (imageAt Z c + o) v) (imageAt Z d) (imageSize Z (suc d)) ≡ part b (imageAt Z d) (imageSize Z (suc d))
+        go (yes w) = spliced-before b (imageAt Z c + o) v room (imageAt Z d) (imageSize Z (suc d)) (omega (arith, image-fits Z c d w))
         go (no w) =
             let g : c < d = omega arith in
-            spliced-behind b (imageAt m c + o) v room (imageAt m d) (imageSize m) (omega (arith, image-fits d m c g))
+            spliced-behind b (imageAt Z c + o) v room (imageAt Z d) (imageSize Z (suc d)) (omega (arith, image-fits Z d c g))
 
-    pub image-put : decode n m (spliced b (imageAt m c + o) v) ≡ put (decode n m b) c (decodeImage (suc c) n m (spliced (imagePart m b c) o v))
+    pub image-put : decode Z (spliced b (imageAt Z c + o) v) ≡ put (decode Z b) c (decodeImage Z (suc c) (spliced (imagePart Z b c) o v))
     unfolding decode
     image-put = fun-ext (λ d. go d (ℕ-discrete d c))
       where
         i : Image
-        i = decodeImage (suc c) n m (spliced (imagePart m b c) o v)
+        i = decodeImage Z (suc c) (spliced (imagePart Z b c) o v)
 
-        go : (d : ℕ) → Dec (d ≡ c) → decodeImage (suc d) n m (imagePart m (spliced b (imageAt m c + o) v) d) ≡ put (λ d. decodeImage (suc d) n m (imagePart m b d)) c i d
-        go d (yes q) = rw (q, put-same) (ap (decodeImage (suc c) n m) own-part)
-        go d (no q) = rw (put-other (λ d. decodeImage (suc d) n m (imagePart m b d)) c i d q) (ap (decodeImage (suc d) n m) (other-part d q))
+        go : (d : ℕ) → Dec (d ≡ c) → decodeImage Z (suc d) (imagePart Z (spliced b (imageAt Z c + o) v) d) ≡ put (λ d. decodeImage Z (suc d) (imagePart Z b d)) c i d
+        go d (yes q) = rw (q, put-same) (ap (decodeImage Z (suc c)) own-part)
+        go d (no q) = rw (put-other (λ d. decodeImage Z (suc d) (imagePart Z b d)) c i d q) (ap (decodeImage Z (suc d)) (other-part d q))
 
-  pub record-put : (c k : ℕ) (v : Bytes) → c < n → k < m → length v ≡ 34
-      → decode n m (spliced b (imageAt m c + recordAt k) v) ≡ put (decode n m b) c (setRecord (decode n m b c) k (readRecord (suc k) v))
+  pub record-put : (c k : ℕ) (v : Bytes) → c < Z .n → k < Z .m → length v ≡ 34
+      → decode Z (spliced b (imageAt Z c + recordAt Z k) v) ≡ put (decode Z b) c (setRecord (decode Z b c) k (readRecord (index (firstAt Z b c) k) v))
+  unfolding firstAt
   record-put c k v cn km lv =
-      image-put c cn (recordAt k) v (omega (arith, record-fits m k km))
-      ∙ ap (put (decode n m b) c) (unfold decode in record-spliced (suc c) n m (imagePart m b c) (length-image c cn) k km v lv)
+      image-put c cn (recordAt Z k) v (omega (arith, record-fits Z (suc c) k km))
+      ∙ ap (put (decode Z b) c) (unfold decode in record-spliced Z (suc c) (imagePart Z b c) (length-image c cn) k km v lv)
 
-  pub entry-put : (c k : ℕ) (v : Bytes) → c < n → k < m → length v ≡ 240
-      → decode n m (spliced b (imageAt m c + entryAt m k) v) ≡ put (decode n m b) c (setEntry (decode n m b c) k (readEntry (suc k) v))
+  pub entry-put : (c k : ℕ) (v : Bytes) → c < Z .n → k < Z .m → length v ≡ 240
+      → decode Z (spliced b (imageAt Z c + entryAt Z k) v) ≡ put (decode Z b) c (setEntry (decode Z b c) k (readEntry (index (firstAt Z b c) k) v))
+  unfolding firstAt
   entry-put c k v cn km lv =
-      image-put c cn (entryAt m k) v (omega (arith, entry-fits m k km))
-      ∙ ap (put (decode n m b) c) (unfold decode in entry-spliced (suc c) n m (imagePart m b c) (length-image c cn) k km v lv)
+      image-put c cn (entryAt Z k) v (omega (arith, entry-fits Z (suc c) k km))
+      ∙ ap (put (decode Z b) c) (unfold decode in entry-spliced Z (suc c) (imagePart Z b c) (length-image c cn) k km v lv)

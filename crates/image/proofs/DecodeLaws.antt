@@ -1,6 +1,6 @@
 -- One image in bytes and taken apart: a splice of one record or entry sets that one and nothing else.
 use Prim.Native.Nat.{ℕ, suc, _+_, _*_, _≤_, _<_}
-use mathlib.Core.Path.{_≡_, refl, ap}
+use mathlib.Core.Path.{_≡_, refl, ap, _∙_}
 use mathlib.Core.Bool.{Bool, true, false, cond}
 use mathlib.Core.List.{[]}
 use native.Mathlib.Omega.{arith}
@@ -13,44 +13,97 @@ use Rattle.search.specs.Put.{put}
 use Rattle.search.proofs.UpdateLaws.{put-same, put-other}
 use Rattle.slices.specs.Parts.{Bytes, part, spliced}
 use Rattle.slices.proofs.SpliceLaws.{spliced-here, spliced-before, spliced-behind, spliced-other}
-use Rattle.record.specs.Meaning.{blank, broken, readHeader, readRecord, readEntry}
-use Rattle.image.specs.Image.{Image, imageSize, recordAt, entryAt, decodeImage}
+use Rattle.record.specs.declared.Shape.{Shape}
+use Rattle.record.specs.Layout.{headerSize}
+use Rattle.record.proofs.LayoutLaws.{header-size-is}
+use Rattle.record.specs.Meaning.{firstIndex, blank, broken, readHeader, readRecord, readEntry}
+use Rattle.image.specs.Image.{Image, index, imageSize, recordAt, entryAt, decodeUnder, firstIn, decodeImage}
 use Rattle.image.specs.SetSlot.{setRecord, setEntry}
 
-pub size-is : (m : ℕ) → imageSize m ≡ 28 + 34 * m + 240 * m
+pub size-is : (Z : Shape) (c : ℕ) → imageSize Z c ≡ headerSize Z + 34 * Z .m + 240 * Z .m
 unfolding imageSize
-size-is m = refl
+size-is Z c = refl
+
+-- an image has at least a byte, and of at most 64 slots at most so many
+pub size-some : (Z : Shape) (c : ℕ) → 1 ≤ imageSize Z c
+size-some Z c = omega (arith, size-is Z c, header-size-is Z)
+
+pub size-few : (Z : Shape) (c : ℕ) → Z .m ≤ 64 → imageSize Z c ≤ 17564
+size-few Z c h = omega (arith, size-is Z c, header-size-is Z)
 
 -- where they begin
-pub record-begins : (k : ℕ) → recordAt k ≡ 28 + 34 * k
+pub record-begins : (Z : Shape) (k : ℕ) → recordAt Z k ≡ headerSize Z + 34 * k
 unfolding recordAt
-record-begins k = refl
+record-begins Z k = refl
 
-pub entry-begins : (m k : ℕ) → entryAt m k ≡ 28 + 34 * m + 240 * k
+pub entry-begins : (Z : Shape) (k : ℕ) → entryAt Z k ≡ headerSize Z + 34 * Z .m + 240 * k
 unfolding entryAt
-entry-begins m k = refl
+entry-begins Z k = refl
 
--- a record and an entry lie within the image
-pub record-fits : (m k : ℕ) → k < m → recordAt k + 34 ≤ imageSize m
-unfolding recordAt imageSize
-record-fits m k h = omega (arith, mul-le-mul-left 34 h)
+-- the entries end with the image
+pub entries-end : (Z : Shape) (c : ℕ) → imageSize Z c ≡ entryAt Z (Z .m)
+unfolding imageSize entryAt
+entries-end Z c = refl
 
-pub entry-fits : (m k : ℕ) → k < m → entryAt m k + 240 ≤ imageSize m
-unfolding entryAt imageSize
-entry-fits m k h = omega (arith, mul-le-mul-left 240 h)
+-- a record and an entry lie before that end, and so within the image
+pub record-ends : (Z : Shape) (k : ℕ) → k < Z .m → recordAt Z k + 34 ≤ entryAt Z (Z .m)
+unfolding recordAt entryAt
+record-ends Z k h = omega (arith, mul-le-mul-left 34 h)
+
+pub entry-ends : (Z : Shape) (k : ℕ) → k < Z .m → entryAt Z k + 240 ≤ entryAt Z (Z .m)
+unfolding entryAt
+entry-ends Z k h = omega (arith, mul-le-mul-left 240 h)
+
+pub record-fits : (Z : Shape) (c k : ℕ) → k < Z .m → recordAt Z k + 34 ≤ imageSize Z c
+record-fits Z c k h = omega (arith, entries-end Z c, record-ends Z k h)
+
+pub entry-fits : (Z : Shape) (c k : ℕ) → k < Z .m → entryAt Z k + 240 ≤ imageSize Z c
+entry-fits Z c k h = omega (arith, entries-end Z c, entry-ends Z k h)
 
 pub image-ext : (a b : Image) → a .header ≡ b .header → ((k : ℕ) → a .records k ≡ b .records k) → ((k : ℕ) → a .entries k ≡ b .entries k) → a ≡ b
 image-ext a b p q r = λ i. record { header = p i; records = λ k. q k i; entries = λ k. r k i }
 
--- what stands at a slot
-module _ (c n m : ℕ) (b : Bytes) (k : ℕ) (h : k < m) where
-  pub record-there : decodeImage c n m b .records k ≡ readRecord (suc k) (part b (recordAt k) 34)
-  unfolding decodeImage
-  record-there = rw (lt-ltb k m h)
+-- slots from 1, where the first has index 1
+pub index-one : (k : ℕ) → index 1 k ≡ suc k
+unfolding index
+index-one k = omega arith
 
-  pub entry-there : decodeImage c n m b .entries k ≡ readEntry (suc k) (part b (entryAt m k) 240)
+-- the index of one slot only
+pub index-other : (first k : ℕ) {j : ℕ} → ¬ (j ≡ k) → ¬ (index first j ≡ index first k)
+unfolding index
+index-other first k h e = h (omega arith)
+
+pub header-there : (Z : Shape) (c : ℕ) (b : Bytes) → decodeImage Z c b .header ≡ readHeader Z c (part b 0 (headerSize Z))
+unfolding decodeImage decodeUnder
+header-there Z c b = refl
+
+-- the header says where the log begins
+pub first-is : (Z : Shape) (c : ℕ) (b : Bytes) → firstIndex (decodeImage Z c b .header) ≡ firstIn Z c b
+unfolding decodeImage decodeUnder firstIn
+first-is Z c b = refl
+
+pub under-first : (Z : Shape) (c : ℕ) (b : Bytes) {first : ℕ} → first ≡ firstIndex (decodeImage Z c b .header) → decodeUnder Z c first b ≡ decodeImage Z c b
+unfolding decodeImage
+under-first Z c b p = ap (λ (z : ℕ). decodeUnder Z c z b) (p ∙ first-is Z c b)
+
+-- what stands at a slot
+module _ (Z : Shape) (c first : ℕ) (b : Bytes) (k : ℕ) (h : k < Z .m) where
+  pub record-under : decodeUnder Z c first b .records k ≡ readRecord (index first k) (part b (recordAt Z k) 34)
+  unfolding decodeUnder
+  record-under = rw (lt-ltb k (Z .m) h)
+
+  pub entry-under : decodeUnder Z c first b .entries k ≡ readEntry (index first k) (part b (entryAt Z k) 240)
+  unfolding decodeUnder
+  entry-under = rw (lt-ltb k (Z .m) h)
+
+module _ (Z : Shape) (c : ℕ) (b : Bytes) (k : ℕ) (h : k < Z .m) where
+  pub record-there : decodeImage Z c b .records k ≡ readRecord (index (firstIn Z c b) k) (part b (recordAt Z k) 34)
   unfolding decodeImage
-  entry-there = rw (lt-ltb k m h)
+  record-there = record-under Z c (firstIn Z c b) b k h
+
+  pub entry-there : decodeImage Z c b .entries k ≡ readEntry (index (firstIn Z c b) k) (part b (entryAt Z k) 240)
+  unfolding decodeImage
+  entry-there = entry-under Z c (firstIn Z c b) b k h
 
 -- one slot of m is put anew
 slot-put {ℓ} : {A : Type ℓ} (m k : ℕ) (f g : ℕ → A) (z v : A) → k < m → g k ≡ v → ((j : ℕ) → j < m → (j ≡ k → ⊥) → g j ≡ f j)
@@ -73,37 +126,65 @@ slot-keep {A = A} m f g z off j = go (ltb j m) refl
     go true e = off j (ltb-true j m e)
     go false e = refl
 
-module _ (c n m : ℕ) (b : Bytes) (size : length b ≡ imageSize m) (k : ℕ) (h : k < m) (v : Bytes) where
-  pub record-spliced : length v ≡ 34 → decodeImage c n m (spliced b (recordAt k) v) ≡ setRecord (decodeImage c n m b) k (readRecord (suc k) v)
-  unfolding decodeImage setRecord
+module _ (Z : Shape) (c : ℕ) (b : Bytes) (size : length b ≡ imageSize Z c) (k : ℕ) (h : k < Z .m) (v : Bytes) where
+  -- a record that is written leaves the header as it was
+  record-first : length v ≡ 34 → part (spliced b (recordAt Z k) v) 0 (headerSize Z) ≡ part b 0 (headerSize Z)
+  record-first lv = spliced-before b (recordAt Z k) v (omega (arith, record-fits Z c k h)) 0 (headerSize Z) (unfold recordAt in omega arith)
+
+  record-spliced-under : (first : ℕ) → length v ≡ 34
+      → decodeUnder Z c first (spliced b (recordAt Z k) v) ≡ setRecord (decodeUnder Z c first b) k (readRecord (index first k) v)
+  unfolding decodeUnder setRecord
+  record-spliced-under first lv =
+      image-ext _ _
+      (ap (readHeader Z c) (record-first lv))
+      (slot-put (Z .m) k (λ j. readRecord (index first j) (part b (recordAt Z j) 34)) (λ j. readRecord (index first j) (part (spliced b (recordAt Z k) v) (recordAt Z j) 34)) blank (readRecord (index first k) v) h
+      (ap (readRecord (index first k)) (spliced-here b (recordAt Z k) v fits 34 lv))
+      (λ j x q. ap (readRecord (index first j)) (unfold recordAt in spliced-other b v (headerSize Z) 34 j k lv room q)))
+      (slot-keep (Z .m) (λ j. readEntry (index first j) (part b (entryAt Z j) 240)) (λ j. readEntry (index first j) (part (spliced b (recordAt Z k) v) (entryAt Z j) 240)) (broken [])
+      (λ j x. ap (readEntry (index first j)) (spliced-behind b (recordAt Z k) v fits (entryAt Z j) 240 (unfold recordAt entryAt in omega (arith, mul-le-mul-left 34 h)))))
+    where
+      fits : recordAt Z k + length v ≤ length b
+      fits = omega (arith, record-fits Z c k h)
+
+      room : headerSize Z + 34 * k + 34 ≤ length b
+      room = unfold recordAt in omega (arith, record-fits Z c k h)
+
+  pub record-keeps-first : length v ≡ 34 → firstIn Z c (spliced b (recordAt Z k) v) ≡ firstIn Z c b
+  unfolding firstIn
+  record-keeps-first lv = ap (λ (z : Bytes). firstIndex (readHeader Z c z)) (record-first lv)
+
+  pub record-spliced : length v ≡ 34 → decodeImage Z c (spliced b (recordAt Z k) v) ≡ setRecord (decodeImage Z c b) k (readRecord (index (firstIn Z c b) k) v)
+  unfolding decodeImage
   record-spliced lv =
+      ap (λ (z : ℕ). decodeUnder Z c z (spliced b (recordAt Z k) v)) (record-keeps-first lv) ∙ record-spliced-under (firstIn Z c b) lv
+
+  -- so does an entry
+  entry-first : length v ≡ 240 → part (spliced b (entryAt Z k) v) 0 (headerSize Z) ≡ part b 0 (headerSize Z)
+  entry-first lv = spliced-before b (entryAt Z k) v (omega (arith, entry-fits Z c k h)) 0 (headerSize Z) (unfold entryAt in omega arith)
+
+  entry-spliced-under : (first : ℕ) → length v ≡ 240
+      → decodeUnder Z c first (spliced b (entryAt Z k) v) ≡ setEntry (decodeUnder Z c first b) k (readEntry (index first k) v)
+  unfolding decodeUnder setEntry
+  entry-spliced-under first lv =
       image-ext _ _
-      (ap (readHeader c n m) (spliced-before b (recordAt k) v fits 0 28 (unfold recordAt in omega arith)))
-      (slot-put m k (λ j. readRecord (suc j) (part b (recordAt j) 34)) (λ j. readRecord (suc j) (part (spliced b (recordAt k) v) (recordAt j) 34)) blank (readRecord (suc k) v) h
-      (ap (readRecord (suc k)) (spliced-here b (recordAt k) v fits 34 lv))
-      (λ j x q. ap (readRecord (suc j)) (unfold recordAt in spliced-other b v 28 34 j k lv room q)))
-      (slot-keep m (λ j. readEntry (suc j) (part b (entryAt m j) 240)) (λ j. readEntry (suc j) (part (spliced b (recordAt k) v) (entryAt m j) 240)) (broken [])
-      (λ j x. ap (readEntry (suc j)) (spliced-behind b (recordAt k) v fits (entryAt m j) 240 (unfold recordAt entryAt in omega (arith, mul-le-mul-left 34 h)))))
+      (ap (readHeader Z c) (entry-first lv))
+      (slot-keep (Z .m) (λ j. readRecord (index first j) (part b (recordAt Z j) 34)) (λ j. readRecord (index first j) (part (spliced b (entryAt Z k) v) (recordAt Z j) 34)) blank
+      (λ j x. ap (readRecord (index first j)) (spliced-before b (entryAt Z k) v fits (recordAt Z j) 34 (unfold recordAt entryAt in omega (arith, mul-le-mul-left 34 x)))))
+      (slot-put (Z .m) k (λ j. readEntry (index first j) (part b (entryAt Z j) 240)) (λ j. readEntry (index first j) (part (spliced b (entryAt Z k) v) (entryAt Z j) 240)) (broken []) (readEntry (index first k) v) h
+      (ap (readEntry (index first k)) (spliced-here b (entryAt Z k) v fits 240 lv))
+      (λ j x q. ap (readEntry (index first j)) (unfold entryAt in spliced-other b v (headerSize Z + 34 * Z .m) 240 j k lv room q)))
     where
-      fits : recordAt k + length v ≤ length b
-      fits = omega (arith, record-fits m k h)
+      fits : entryAt Z k + length v ≤ length b
+      fits = omega (arith, entry-fits Z c k h)
 
-      room : 28 + 34 * k + 34 ≤ length b
-      room = unfold recordAt in omega (arith, record-fits m k h)
+      room : headerSize Z + 34 * Z .m + 240 * k + 240 ≤ length b
+      room = unfold entryAt in omega (arith, entry-fits Z c k h)
 
-  pub entry-spliced : length v ≡ 240 → decodeImage c n m (spliced b (entryAt m k) v) ≡ setEntry (decodeImage c n m b) k (readEntry (suc k) v)
-  unfolding decodeImage setEntry
+  pub entry-keeps-first : length v ≡ 240 → firstIn Z c (spliced b (entryAt Z k) v) ≡ firstIn Z c b
+  unfolding firstIn
+  entry-keeps-first lv = ap (λ (z : Bytes). firstIndex (readHeader Z c z)) (entry-first lv)
+
+  pub entry-spliced : length v ≡ 240 → decodeImage Z c (spliced b (entryAt Z k) v) ≡ setEntry (decodeImage Z c b) k (readEntry (index (firstIn Z c b) k) v)
+  unfolding decodeImage
   entry-spliced lv =
-      image-ext _ _
-      (ap (readHeader c n m) (spliced-before b (entryAt m k) v fits 0 28 (unfold entryAt in omega arith)))
-      (slot-keep m (λ j. readRecord (suc j) (part b (recordAt j) 34)) (λ j. readRecord (suc j) (part (spliced b (entryAt m k) v) (recordAt j) 34)) blank
-      (λ j x. ap (readRecord (suc j)) (spliced-before b (entryAt m k) v fits (recordAt j) 34 (unfold recordAt entryAt in omega (arith, mul-le-mul-left 34 x)))))
-      (slot-put m k (λ j. readEntry (suc j) (part b (entryAt m j) 240)) (λ j. readEntry (suc j) (part (spliced b (entryAt m k) v) (entryAt m j) 240)) (broken []) (readEntry (suc k) v) h
-      (ap (readEntry (suc k)) (spliced-here b (entryAt m k) v fits 240 lv))
-      (λ j x q. ap (readEntry (suc j)) (unfold entryAt in spliced-other b v (28 + 34 * m) 240 j k lv room q)))
-    where
-      fits : entryAt m k + length v ≤ length b
-      fits = omega (arith, entry-fits m k h)
-
-      room : 28 + 34 * m + 240 * k + 240 ≤ length b
-      room = unfold entryAt in omega (arith, entry-fits m k h)
+      ap (λ (z : ℕ). decodeUnder Z c z (spliced b (entryAt Z k) v)) (entry-keeps-first lv) ∙ entry-spliced-under (firstIn Z c b) lv

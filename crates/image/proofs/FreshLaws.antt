@@ -15,13 +15,14 @@ use Rattle.search.proofs.ListedLaws.{length-joined}
 use Rattle.slices.specs.Parts.{Bytes, part}
 use Rattle.slices.proofs.SameLaws.{and-off, same-refl}
 use Rattle.slices.proofs.PartLaws.{part-front, part-back, part-first, part-last}
-use Rattle.record.specs.Layout.{headerBytes, blankRecord, freshEntry}
+use Rattle.record.specs.declared.Shape.{Shape}
+use Rattle.record.specs.Layout.{headerSize, headerBytes, blankRecord, freshEntry}
 use Rattle.record.specs.Meaning.{proper, blank, readHeader, readRecord, readEntry}
 use Rattle.record.proofs.LayoutLaws.{length-header, length-blank, length-fresh}
 use Rattle.record.proofs.HeaderLaws.{read-proper}
 use Rattle.record.proofs.RecordLaws.{read-blank}
 use Rattle.record.proofs.EntryLaws.{fresh-read}
-use Rattle.image.specs.Image.{Image, imageSize, recordAt, entryAt, decodeImage, freshImage}
+use Rattle.image.specs.Image.{Image, index, imageSize, recordAt, entryAt, decodeUnder, firstIn, decodeImage, freshImage}
 use Rattle.image.specs.View.{Unused, condition, isBlank, isProper, isLost, conditionAt, logLength, callRefusal, readRefusal}
 use Rattle.image.specs.Verdict.{isFresh, verdictAt}
 use Rattle.image.proofs.RefusalLaws.{else-zero}
@@ -56,69 +57,69 @@ length-records m = length-joined m 34 (λ k. blankRecord) (λ k h. length-blank)
 pub length-entries : (m : ℕ) → length (joined m (λ k. freshEntry)) ≡ 240 * m
 length-entries m = length-joined m 240 (λ k. freshEntry) (λ k h. length-fresh)
 
-module _ (c n m : ℕ) where
-  length-front : length (headerBytes c n m ++ records m) ≡ 28 + 34 * m
-  length-front = length-append (headerBytes c n m) (records m) ∙ omega (arith, length-header c n m, length-records m)
+module _ (Z : Shape) (c : ℕ) where
+  length-front : length (headerBytes Z c ++ records (Z .m)) ≡ headerSize Z + 34 * Z .m
+  length-front = length-append (headerBytes Z c) (records (Z .m)) ∙ omega (arith, length-header Z c, length-records (Z .m))
 
-  pub length-fresh-image : length (freshImage c n m) ≡ imageSize m
+  pub length-fresh-image : length (freshImage Z c) ≡ imageSize Z c
   unfolding freshImage imageSize
-  length-fresh-image = length-append (headerBytes c n m ++ records m) (entries m) ∙ omega (arith, length-front, length-entries m)
+  length-fresh-image = length-append (headerBytes Z c ++ records (Z .m)) (entries (Z .m)) ∙ omega (arith, length-front, length-entries (Z .m))
 
   -- ---- its parts
-  fresh-header : part (freshImage c n m) 0 28 ≡ headerBytes c n m
+  fresh-header : part (freshImage Z c) 0 (headerSize Z) ≡ headerBytes Z c
   unfolding freshImage
   fresh-header =
-      part-front (headerBytes c n m ++ records m) (entries m) 0 28 (omega (arith, length-front))
-      ∙ part-first (headerBytes c n m) (records m) 28 (length-header c n m)
+      part-front (headerBytes Z c ++ records (Z .m)) (entries (Z .m)) 0 (headerSize Z) (omega (arith, length-front))
+      ∙ part-first (headerBytes Z c) (records (Z .m)) (headerSize Z) (length-header Z c)
 
-  fresh-record : (k : ℕ) → k < m → part (freshImage c n m) (recordAt k) 34 ≡ blankRecord
+  fresh-record : (k : ℕ) → k < Z .m → part (freshImage Z c) (recordAt Z k) 34 ≡ blankRecord
   unfolding freshImage recordAt
   fresh-record k h =
-      part-front (headerBytes c n m ++ records m) (entries m) (28 + 34 * k) 34 (omega (arith, length-front, mul-le-mul-left 34 h))
-      ∙ part-back (headerBytes c n m) (records m) (34 * k) 34 28 (length-header c n m)
-      ∙ joined-part m 34 (λ j. blankRecord) k (λ j x. length-blank) h
+      part-front (headerBytes Z c ++ records (Z .m)) (entries (Z .m)) (headerSize Z + 34 * k) 34 (omega (arith, length-front, mul-le-mul-left 34 h))
+      ∙ part-back (headerBytes Z c) (records (Z .m)) (34 * k) 34 (headerSize Z) (length-header Z c)
+      ∙ joined-part (Z .m) 34 (λ j. blankRecord) k (λ j x. length-blank) h
 
-  fresh-entry : (k : ℕ) → k < m → part (freshImage c n m) (entryAt m k) 240 ≡ freshEntry
+  fresh-entry : (k : ℕ) → k < Z .m → part (freshImage Z c) (entryAt Z k) 240 ≡ freshEntry
   unfolding freshImage entryAt
   fresh-entry k h =
-      part-back (headerBytes c n m ++ records m) (entries m) (240 * k) 240 (28 + 34 * m) length-front
-      ∙ joined-part m 240 (λ j. freshEntry) k (λ j x. length-fresh) h
+      part-back (headerBytes Z c ++ records (Z .m)) (entries (Z .m)) (240 * k) 240 (headerSize Z + 34 * Z .m) length-front
+      ∙ joined-part (Z .m) 240 (λ j. freshEntry) k (λ j x. length-fresh) h
 
   -- ---- what they mean
   abbrev fresh : Image
-  fresh = decodeImage c n m (freshImage c n m)
+  fresh = decodeImage Z c (freshImage Z c)
 
-  pub fresh-headed : decodeImage c n m (freshImage c n m) .header ≡ proper
-  unfolding decodeImage
-  fresh-headed = ap (readHeader c n m) fresh-header ∙ read-proper c n m
+  pub fresh-headed : decodeImage Z c (freshImage Z c) .header ≡ proper
+  unfolding decodeImage decodeUnder
+  fresh-headed = ap (readHeader Z c) fresh-header ∙ read-proper Z c
 
-  pub fresh-blank : (k : ℕ) → decodeImage c n m (freshImage c n m) .records k ≡ blank
-  unfolding decodeImage
-  fresh-blank k = go (ltb k m) refl
+  pub fresh-blank : (k : ℕ) → decodeImage Z c (freshImage Z c) .records k ≡ blank
+  unfolding decodeImage decodeUnder
+  fresh-blank k = go (ltb k (Z .m)) refl
     where
-      go : (t : Bool) → ltb k m ≡ t → cond t (readRecord (suc k) (part (freshImage c n m) (recordAt k) 34)) blank ≡ blank
-      go true e = ap (readRecord (suc k)) (fresh-record k (ltb-true k m e)) ∙ read-blank (suc k)
+      go : (t : Bool) → ltb k (Z .m) ≡ t → cond t (readRecord (index (firstIn Z c (freshImage Z c)) k) (part (freshImage Z c) (recordAt Z k) 34)) blank ≡ blank
+      go true e = ap (readRecord (index (firstIn Z c (freshImage Z c)) k)) (fresh-record k (ltb-true k (Z .m) e)) ∙ read-blank (index (firstIn Z c (freshImage Z c)) k)
       go false e = refl
 
-  pub fresh-fresh : (k : ℕ) → k < m → isFresh (decodeImage c n m (freshImage c n m) .entries k) ≡ true
+  pub fresh-fresh : (k : ℕ) → k < Z .m → isFresh (decodeImage Z c (freshImage Z c) .entries k) ≡ true
   unfolding isFresh
   fresh-fresh k h =
-      let e = entry-there c n m (freshImage c n m) k h ∙ ap (readEntry (suc k)) (fresh-entry k h) ∙ fresh-read (suc k) in
+      let e = entry-there Z c (freshImage Z c) k h ∙ ap (readEntry (index (firstIn Z c (freshImage Z c)) k)) (fresh-entry k h) ∙ fresh-read (index (firstIn Z c (freshImage Z c)) k) in
       rw e (same-refl freshEntry)
 
   -- ---- what is seen of it
-  pub fresh-length : logLength m fresh ≡ 0
+  pub fresh-length : logLength (Z .m) fresh ≡ 0
   unfolding logLength isBlank
-  fresh-length = lowest-is (λ k. isBlank (fresh .records k)) m 0 (omega arith) (λ j h. absurd (omega arith)) (λ h. rw (fresh-blank 0))
+  fresh-length = lowest-is (λ k. isBlank (fresh .records k)) (Z .m) 0 (omega arith) (λ j h. absurd (omega arith)) (λ h. rw (fresh-blank 0))
 
   pub fresh-condition : (k : ℕ) → conditionAt fresh k ≡ Unused
   unfolding conditionAt condition
   fresh-condition k = rw (fresh-blank k)
 
-  pub fresh-verdict : (k : ℕ) → k < m → verdictAt m fresh k ≡ 0
-  fresh-verdict k h = verdict-unused m fresh k (fresh-condition k) ∙ rw (fresh-fresh k h, and-off)
+  pub fresh-verdict : (k : ℕ) → k < Z .m → verdictAt (Z .m) fresh k ≡ 0
+  fresh-verdict k h = verdict-unused (Z .m) fresh k (fresh-condition k) ∙ rw (fresh-fresh k h, and-off)
 
-  pub fresh-sound : Sound m fresh
+  pub fresh-sound : Sound (Z .m) fresh
   unfolding isProper isLost
   fresh-sound = record {
     headed = rw fresh-headed;
@@ -127,6 +128,6 @@ module _ (c n m : ℕ) where
     rise = λ k h. absurd (omega (arith, fresh-length));
   }
 
-  pub fresh-readable : callRefusal c n m (imageSize m) ≡ 0 → readRefusal c n m (freshImage c n m) ≡ 0
+  pub fresh-readable : callRefusal Z c (imageSize Z c) ≡ 0 → readRefusal Z c (freshImage Z c) ≡ 0
   unfolding readRefusal
-  fresh-readable h = else-zero (ap (callRefusal c n m) length-fresh-image ∙ h) (sound-intro m fresh fresh-sound)
+  fresh-readable h = else-zero (ap (callRefusal Z c) length-fresh-image ∙ h) (sound-intro (Z .m) fresh fresh-sound)

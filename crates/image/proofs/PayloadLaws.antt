@@ -10,20 +10,21 @@ use borrow.Author.Tests.{ne-eqb, le-leb, lt-leb, leb-true, not-true}
 use Rattle.slices.specs.Parts.{Bytes, part}
 use Rattle.slices.proofs.SameLaws.{and-left, and-right, and-off, clash}
 use Rattle.slices.proofs.PartLaws.{part-part}
+use Rattle.record.specs.declared.Shape.{Shape}
 use Rattle.record.specs.Meaning.{Record, good, blank, bad, Entry, intact, broken, readEntry, entryPayload}
 use Rattle.record.specs.Exactly.{IntactFor}
 use Rattle.record.specs.Judged.{entryAnswer}
 use Rattle.record.specs.declared.EntryState.{EntryState}
 use Rattle.record.specs.declared.EntryState.the-variants.{Intact, Broken}
 use Rattle.record.proofs.EntryLaws.{intact-for, intact-payload, intact-part}
-use Rattle.image.specs.Image.{Image, imageSize, entryAt, decodeImage}
+use Rattle.image.specs.Image.{Image, imageSize, index, entryAt, decodeUnder, decodeImage}
 use Rattle.image.specs.View.{Condition, Unused, Whole, RecordLost, Faulty, Lost, condition, conditionAt, readRefusal}
 use Rattle.image.specs.View.{conditionNumber}
 use Rattle.image.specs.Seen.{conditionsOf}
 use Rattle.image.specs.Scan.{SpanIn}
 use Rattle.image.specs.Read.{isWhole, hasPayload, payloadOf, payloadAt}
 use Rattle.image.specs.Answers.{refused, value, numbered}
-use Rattle.image.proofs.DecodeLaws.{entry-there, entry-fits}
+use Rattle.image.proofs.DecodeLaws.{entry-under, entry-ends}
 use Rattle.image.proofs.ScannedLaws.{taken-at}
 
 -- ---- whether there is a payload
@@ -103,43 +104,43 @@ intact-found k s e l h = go (readEntry k s) refl h
         (omega (arith, i .short), intact-payload k f p s i ∙ sym (rw z (intact-part k f p s i)))
     go (broken z) q g = absurd (let y : _≡_ {A = ℕ} 0 1 = cc in omega arith)
 
-module _ (m : ℕ) (b : Bytes) (k : ℕ) (h : k < m) (a : EntryState) (there : (c n : ℕ) → a ≡ entryAnswer (decodeImage c n m b .entries k)) where
-  pub span-none : a ≡ Broken → (c n : ℕ) → isWhole (conditionAt (decodeImage c n m b) k) ≡ true
-      → (part b 0 (0 - 0) ≡ entryPayload (part b (entryAt m k) 240)) × (0 ≡ entryAt m k + 26)
+module _ (Z : Shape) (first : ℕ) (b : Bytes) (k : ℕ) (h : k < Z .m) (a : EntryState) (there : (c : ℕ) → a ≡ entryAnswer (decodeUnder Z c first b .entries k)) where
+  pub span-none : a ≡ Broken → (c : ℕ) → isWhole (conditionAt (decodeUnder Z c first b) k) ≡ true
+      → (part b 0 (0 - 0) ≡ entryPayload (part b (entryAt Z k) 240)) × (0 ≡ entryAt Z k + 26)
   unfolding conditionAt
-  span-none q c n w = absurd (whole-intact (decodeImage c n m b .records k) (decodeImage c n m b .entries k) w (sym (there c n) ∙ q))
+  span-none q c w = absurd (whole-intact (decodeUnder Z c first b .records k) (decodeUnder Z c first b .entries k) w (sym (there c) ∙ q))
 
   module _ {e l : ℕ} (q : a ≡ Intact e l) where
-    found : (l ≤ 200) × (entryPayload (part b (entryAt m k) 240) ≡ part (part b (entryAt m k) 240) 26 l)
-    found = intact-found (suc k) (part b (entryAt m k) 240) e l (sym q ∙ there 0 0 ∙ ap entryAnswer (entry-there 0 0 m b k h))
+    found : (l ≤ 200) × (entryPayload (part b (entryAt Z k) 240) ≡ part (part b (entryAt Z k) 240) 26 l)
+    found = intact-found (index first k) (part b (entryAt Z k) 240) e l (sym q ∙ there 0 ∙ ap entryAnswer (entry-under Z 0 first b k h))
 
     pub span-short : l ≤ 200
     span-short = found .0
 
-    module _ {at : ℕ} (place : at ≡ entryAt m k + 26) where
-      pub span-fits : length b ≡ imageSize m → at + l ≤ length b
-      span-fits size = omega (arith, entry-fits m k h, span-short)
+    module _ {at : ℕ} (place : at ≡ entryAt Z k + 26) where
+      pub span-fits : entryAt Z (Z .m) ≤ length b → at + l ≤ length b
+      span-fits size = omega (arith, entry-ends Z k h, span-short)
 
-      pub span-there : (part b at (at + l - at) ≡ entryPayload (part b (entryAt m k) 240)) × (at ≡ entryAt m k + 26)
+      pub span-there : (part b at (at + l - at) ≡ entryPayload (part b (entryAt Z k) 240)) × (at ≡ entryAt Z k + 26)
       span-there =
           let z : at + l - at ≡ l = omega arith in
-          (rw (z, place) (sym (found .1 ∙ part-part b (entryAt m k) 240 26 l (omega (arith, span-short)))), place)
+          (rw (z, place) (sym (found .1 ∙ part-part b (entryAt Z k) 240 26 l (omega (arith, span-short)))), place)
 
 pub span-empty : (size : ℕ) → SpanIn size 0 0
 span-empty size = record { ordered = omega arith; within = omega arith }
 
-module _ (c n m : ℕ) (b : Bytes) (slot r : ℕ) (e : r ≡ readRefusal c n m b) where
-  pub no-payload-refused : ¬ (r ≡ 0) → (part b 0 (0 - 0) ≡ payloadOf c n m b slot) × (0 ≡ payloadAt c n m b slot)
+module _ (Z : Shape) (c : ℕ) (b : Bytes) (slot r : ℕ) (e : r ≡ readRefusal Z c b) where
+  pub no-payload-refused : ¬ (r ≡ 0) → (part b 0 (0 - 0) ≡ payloadOf Z c b slot) × (0 ≡ payloadAt Z c b slot)
   unfolding payloadOf payloadAt part
   no-payload-refused h = (sym (rw (← e, ne-eqb r 0 h)), sym (rw (← e, ne-eqb r 0 h)))
 
-  pub no-payload : (t : Bool) → t ≡ hasPayload m (decodeImage c n m b) slot → not t ≡ true
-      → (part b 0 (0 - 0) ≡ payloadOf c n m b slot) × (0 ≡ payloadAt c n m b slot)
+  pub no-payload : (t : Bool) → t ≡ hasPayload (Z .m) (decodeImage Z c b) slot → not t ≡ true
+      → (part b 0 (0 - 0) ≡ payloadOf Z c b slot) × (0 ≡ payloadAt Z c b slot)
   unfolding payloadOf payloadAt part
-  no-payload t s u = (sym (rw (← s, not-true t u, and-off (eqb (readRefusal c n m b) 0))), sym (rw (← s, not-true t u, and-off (eqb (readRefusal c n m b) 0))))
+  no-payload t s u = (sym (rw (← s, not-true t u, and-off (eqb (readRefusal Z c b) 0))), sym (rw (← s, not-true t u, and-off (eqb (readRefusal Z c b) 0))))
 
-  pub payload-there : r ≡ 0 → hasPayload m (decodeImage c n m b) slot ≡ true → (p : Bytes) {a : ℕ}
-      → (p ≡ entryPayload (part b (entryAt m (slot - 1)) 240)) × (a ≡ entryAt m (slot - 1) + 26)
-      → (p ≡ payloadOf c n m b slot) × (a ≡ payloadAt c n m b slot)
+  pub payload-there : r ≡ 0 → hasPayload (Z .m) (decodeImage Z c b) slot ≡ true → (p : Bytes) {a : ℕ}
+      → (p ≡ entryPayload (part b (entryAt Z (slot - 1)) 240)) × (a ≡ entryAt Z (slot - 1) + 26)
+      → (p ≡ payloadOf Z c b slot) × (a ≡ payloadAt Z c b slot)
   unfolding payloadOf payloadAt
   payload-there h s p (q, z) = (q ∙ sym (rw (← e, h, s)), z ∙ sym (rw (← e, h, s)))

@@ -10,6 +10,7 @@ use Rattle.search.specs.Search.{listed}
 use Rattle.search.proofs.ListedLaws.{listed-cong}
 use Rattle.slices.specs.Parts.{Bytes}
 use Rattle.slices.proofs.SameLaws.{and-off}
+use Rattle.record.specs.declared.Shape.{Shape}
 use Rattle.image.specs.Refusal.{refuse, unlessRefused}
 use Rattle.image.specs.Image.{Image, imageSize, decodeImage}
 use Rattle.image.specs.View.{epochAt, isSlots, callRefusal, imageRefusal, readRefusal}
@@ -23,46 +24,46 @@ use Rattle.image.proofs.ScannedLaws.{taken-at}
 
 -- ---- refusals 1 to 7
 
-module _ (c n m : ℕ) (b : Bytes) (r : ℕ) where
-  pub open-refused : r ≡ callRefusal c n m (length b) → ¬ (r ≡ 0) → r ≡ readRefusal c n m b
+module _ (Z : Shape) (c : ℕ) (b : Bytes) (r : ℕ) where
+  pub open-refused : r ≡ callRefusal Z c (length b) → ¬ (r ≡ 0) → r ≡ readRefusal Z c b
   unfolding readRefusal
-  open-refused e h = sym (else-first (callRefusal c n m (length b)) (imageRefusal m (decodeImage c n m b)) (λ z. h (e ∙ z)) ∙ sym e)
+  open-refused e h = sym (else-first (callRefusal Z c (length b)) (imageRefusal (Z .m) (decodeImage Z c b)) (λ z. h (e ∙ z)) ∙ sym e)
 
-  pub open-view : (q : ℕ) → q ≡ callRefusal c n m (length b) → q ≡ 0 → r ≡ imageRefusal m (decodeImage c n m b) → r ≡ readRefusal c n m b
+  pub open-view : (q : ℕ) → q ≡ callRefusal Z c (length b) → q ≡ 0 → r ≡ imageRefusal (Z .m) (decodeImage Z c b) → r ≡ readRefusal Z c b
   unfolding readRefusal
-  open-view q e h s = s ∙ sym (else-next (imageRefusal m (decodeImage c n m b)) (sym e ∙ h))
+  open-view q e h s = s ∙ sym (else-next (imageRefusal (Z .m) (decodeImage Z c b)) (sym e ∙ h))
 
-  module _ (e : r ≡ readRefusal c n m b) (h : r ≡ 0) where
-    call-passed : callRefusal c n m (length b) ≡ 0
+  module _ (e : r ≡ readRefusal Z c b) (h : r ≡ 0) where
+    call-passed : callRefusal Z c (length b) ≡ 0
     unfolding readRefusal
-    call-passed = else-zero-l (callRefusal c n m (length b)) (imageRefusal m (decodeImage c n m b)) (sym e ∙ h)
+    call-passed = else-zero-l (callRefusal Z c (length b)) (imageRefusal (Z .m) (decodeImage Z c b)) (sym e ∙ h)
 
-    pub opened-slots : isSlots m ≡ true
-    opened-slots = called-slots c n m (length b) call-passed
+    pub opened-slots : isSlots (Z .m) ≡ true
+    opened-slots = called-slots Z c (length b) call-passed
 
-    pub opened-size : length b ≡ imageSize m
-    opened-size = called-size c n m (length b) call-passed
+    pub opened-size : length b ≡ imageSize Z c
+    opened-size = called-size Z c (length b) call-passed
 
 -- ---- reading
 
-module _ (c n m : ℕ) (b : Bytes) (es vs r : ℕ) (e : r ≡ readRefusal c n m b) where
-  pub lent-refused : ¬ (r ≡ 0) → lentRefusal c n m b es vs ≡ r
+module _ (Z : Shape) (c : ℕ) (b : Bytes) (es vs r : ℕ) (e : r ≡ readRefusal Z c b) where
+  pub lent-refused : ¬ (r ≡ 0) → lentRefusal Z c b es vs ≡ r
   unfolding lentRefusal
-  lent-refused h = else-first (readRefusal c n m b) _ (λ z. h (e ∙ z)) ∙ sym e
+  lent-refused h = else-first (readRefusal Z c b) _ (λ z. h (e ∙ z)) ∙ sym e
 
   module _ (h : r ≡ 0) where
-    lent-next : lentRefusal c n m b es vs ≡ refuse 13 (not (eqb es m && eqb vs m))
+    lent-next : lentRefusal Z c b es vs ≡ refuse 13 (not (eqb es (Z .m) && eqb vs (Z .m)))
     unfolding lentRefusal
     lent-next = else-next _ (sym e ∙ h)
 
-    pub lent-epochs : ¬ (es ≡ m) → lentRefusal c n m b es vs ≡ 13
-    lent-epochs k = lent-next ∙ refuse-on 13 (rw (ne-eqb es m k))
+    pub lent-epochs : ¬ (es ≡ Z .m) → lentRefusal Z c b es vs ≡ 13
+    lent-epochs k = lent-next ∙ refuse-on 13 (rw (ne-eqb es (Z .m) k))
 
-    pub lent-verdicts : ¬ (vs ≡ m) → lentRefusal c n m b es vs ≡ 13
-    lent-verdicts k = lent-next ∙ refuse-on 13 (rw (ne-eqb vs m k, and-off (eqb es m)))
+    pub lent-verdicts : ¬ (vs ≡ Z .m) → lentRefusal Z c b es vs ≡ 13
+    lent-verdicts k = lent-next ∙ refuse-on 13 (rw (ne-eqb vs (Z .m) k, and-off (eqb es (Z .m))))
 
-    pub lent-none : es ≡ m → vs ≡ m → lentRefusal c n m b es vs ≡ 0
-    lent-none k l = lent-next ∙ refuse-off 13 (rw (eq-eqb es m k, eq-eqb vs m l))
+    pub lent-none : es ≡ Z .m → vs ≡ Z .m → lentRefusal Z c b es vs ≡ 0
+    lent-none k l = lent-next ∙ refuse-off 13 (rw (eq-eqb es (Z .m) k, eq-eqb vs (Z .m) l))
 
 -- a refused call changes nothing lent
 pub read-refused : {q r : ℕ} → q ≡ r → ¬ (r ≡ 0) → (len : ℕ) (x es y vs : List ℕ)
@@ -79,7 +80,7 @@ unfolding numbered unlessRefused
 read-done {q} e len used x es es′ y vs vs′ l p v = (rw (e, l), rw (e, p), rw (e, v))
 
 -- what the view tells is what the buffers are filled from
-module _ (m : ℕ) (i : Image) (used : ℕ) (cs es : List ℕ) (s : Seen m i used cs es) where
+module _ (m : ℕ) (i : Image) {first : ℕ} (used : ℕ) (cs es : List ℕ) (s : Seen m i first used cs es) where
   pub seen-verdicts : {vs : List ℕ} → (Marked m i used cs → vs ≡ verdictsOf m i) → vs ≡ verdictsOf m i
   seen-verdicts f = f (record { length-is = s .length-is; conditions-are = s .conditions-are })
 

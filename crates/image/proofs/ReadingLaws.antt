@@ -1,5 +1,5 @@
 -- Reading one image, in the sentences of documents 01 and 02.
-use Prim.Native.Nat.{ℕ, suc, _-_, _≤_, _<_}
+use Prim.Native.Nat.{ℕ, suc, _-_, _^_, _≤_, _<_}
 use mathlib.Core.Path.{_≡_, refl, sym, ap, _∙_}
 use mathlib.Core.Bool.{Bool, true, false, cond, _&&_, _||_}
 use native.Mathlib.Omega.{arith}
@@ -8,11 +8,13 @@ use borrow.Author.Tests.{eq-eqb, ne-eqb}
 use Rattle.slices.specs.Parts.{Bytes, part}
 use Rattle.slices.specs.Same.{same}
 use Rattle.slices.proofs.SameLaws.{and-off, same-eq, same-differs}
-use Rattle.record.specs.Layout.{freshEntry}
+use Rattle.record.specs.declared.Shape.{Shape}
+use Rattle.record.specs.Layout.{headerSize, freshEntry}
 use Rattle.record.specs.Meaning.{Entry, good, blank, bad, intact, broken}
 use Rattle.record.specs.Exactly.{IntactFor}
+use Rattle.record.proofs.HeaderLaws.{read-first-high}
 use Rattle.record.proofs.EntryLaws.{intact-for, intact-payload, one-index}
-use Rattle.image.specs.Image.{Image, entryAt, decodeImage}
+use Rattle.image.specs.Image.{Image, index, entryAt, firstIn, decodeImage}
 use Rattle.image.specs.View.{Unused, Whole, RecordLost, Faulty, condition, epochOf, conditionAt, epochAt, logLength, readRefusal}
 use Rattle.image.specs.Verdict.{isFresh, verdictAt}
 use Rattle.image.specs.Read.{hasPayload, payloadOf}
@@ -103,70 +105,79 @@ module _ (m : ℕ) (i : Image) (k : ℕ) where
 
 -- ---- an image that is not refused
 
-module _ (c n m : ℕ) (b : Bytes) (ok : readRefusal c n m b ≡ 0) where
+module _ (Z : Shape) (c : ℕ) (b : Bytes) (ok : readRefusal Z c b ≡ 0) where
   abbrev i : Image
-  i = decodeImage c n m b
+  i = decodeImage Z c b
 
   abbrev len : ℕ
-  len = logLength m (decodeImage c n m b)
+  len = logLength (Z .m) (decodeImage Z c b)
 
-  sound : Sound m i
-  sound = readable-image c n m b ok
+  sound : Sound (Z .m) i
+  sound = readable-image Z c b ok
 
-  few : m ≤ 64
-  few = slots-high m (opened-slots c n m b 0 (sym ok) refl)
+  few : Z .m ≤ 64
+  few = slots-high (Z .m) (opened-slots Z c b 0 (sym ok) refl)
 
-  unused : (k : ℕ) → k < m → len ≤ k → conditionAt i k ≡ Unused
-  unused k h l = blank-unused m i k (sound .tail k l h)
+  unused : (k : ℕ) → k < Z .m → len ≤ k → conditionAt i k ≡ Unused
+  unused k h l = blank-unused (Z .m) i k (sound .tail k l h)
 
-  fresh-at : (k : ℕ) → k < m → isFresh (i .entries k) ≡ same (part b (entryAt m k) 240) freshEntry
-  fresh-at k h = ap isFresh (entry-there c n m b k h) ∙ fresh-is (suc k) (part b (entryAt m k) 240)
+  -- a slot's index
+  abbrev at : ℕ → ℕ
+  at k = index (firstIn Z c b) k
 
-  last-not : (k : ℕ) → k < m → k ≡ len → ¬ (part b (entryAt m k) 240 ≡ freshEntry) → verdictAt m i k ≡ 5
+  at-high : (k : ℕ) → k < Z .m → index (firstIn Z c b) k < 10 ^ 11
+  unfolding index firstIn
+  at-high k h = omega (arith, read-first-high Z c (part b 0 (headerSize Z)), few)
+
+  fresh-at : (k : ℕ) → k < Z .m → isFresh (i .entries k) ≡ same (part b (entryAt Z k) 240) freshEntry
+  fresh-at k h = ap isFresh (entry-there Z c b k h) ∙ fresh-is (at k) (part b (entryAt Z k) 240)
+
+  last-not : (k : ℕ) → k < Z .m → k ≡ len → ¬ (part b (entryAt Z k) 240 ≡ freshEntry) → verdictAt (Z .m) i k ≡ 5
   last-not k h l f =
-      verdict-unused m i k (unused k h (omega arith))
-      ∙ rw (eq-eqb k len l, fresh-at k h, same-differs (part b (entryAt m k) 240) freshEntry f)
+      verdict-unused (Z .m) i k (unused k h (omega arith))
+      ∙ rw (eq-eqb k len l, fresh-at k h, same-differs (part b (entryAt Z k) 240) freshEntry f)
 
-  last-fresh : (k : ℕ) → k < m → k ≡ len → part b (entryAt m k) 240 ≡ freshEntry → verdictAt m i k ≡ 0
+  last-fresh : (k : ℕ) → k < Z .m → k ≡ len → part b (entryAt Z k) 240 ≡ freshEntry → verdictAt (Z .m) i k ≡ 0
   last-fresh k h l f =
-      verdict-unused m i k (unused k h (omega arith))
-      ∙ rw (fresh-at k h, same-eq (part b (entryAt m k) 240) freshEntry f, and-off)
+      verdict-unused (Z .m) i k (unused k h (omega arith))
+      ∙ rw (fresh-at k h, same-eq (part b (entryAt Z k) 240) freshEntry f, and-off)
 
-  behind : (k : ℕ) → k < m → len < k → verdictAt m i k ≡ 0
-  behind k h l = verdict-unused m i k (unused k h (omega arith)) ∙ rw (ne-eqb k len (λ q. omega arith))
+  behind : (k : ℕ) → k < Z .m → len < k → verdictAt (Z .m) i k ≡ 0
+  behind k h l = verdict-unused (Z .m) i k (unused k h (omega arith)) ∙ rw (ne-eqb k len (λ q. omega arith))
 
-  there : (k e : ℕ) (p : Bytes) → hasPayload m i (suc k) ≡ true → i .entries k ≡ intact e p → payloadOf c n m b (suc k) ≡ p
+  there : (k e : ℕ) (p : Bytes) → hasPayload (Z .m) i (suc k) ≡ true → i .entries k ≡ intact e p → payloadOf Z c b (suc k) ≡ p
   unfolding payloadOf
   there k e p h x =
       let z : suc k - 1 ≡ k = omega arith in
-      let l : k < m = omega (arith, has-below m (suc k) i h) in
-      rw (ok, h, z) (intact-payload (suc k) e p _ (intact-for (suc k) _ e p (sym (entry-there c n m b k l) ∙ x)))
+      let l : k < Z .m = omega (arith, has-below (Z .m) (suc k) i h) in
+      rw (ok, h, z) (intact-payload (at k) e p _ (intact-for (at k) _ e p (sym (entry-there Z c b k l) ∙ x)))
 
-  elsewhere : (k j e f : ℕ) (p : Bytes) → k < m → j ≤ m → i .records k ≡ good e → IntactFor j f p (part b (entryAt m k) 240) → ¬ (j ≡ suc k)
-      → verdictAt m i k ≡ cond (eqb (suc k) len) 4 3
+  elsewhere : (k j e f : ℕ) (p : Bytes) → k < Z .m → j ≤ 4294967295 → i .records k ≡ good e → IntactFor j f p (part b (entryAt Z k) 240)
+      → ¬ (j ≡ index (firstIn Z c b) k)
+      → verdictAt (Z .m) i k ≡ cond (eqb (suc k) len) 4 3
   elsewhere k j e f p h l r x d =
-      good-noise m i k e r (λ g q y. d (one-index j (suc k) f g p q _ (omega (arith, few)) (omega (arith, few)) x (intact-for (suc k) _ g q (sym (entry-there c n m b k h) ∙ y))))
+      good-noise (Z .m) i k e r (λ g q y. d (one-index j (at k) f g p q _ (omega arith) (at-high k h) x (intact-for (at k) _ g q (sym (entry-there Z c b k h) ∙ y))))
 
-  pub reads : Reading c n m b i len
+  pub reads : Reading Z c b i len
   unfolding hasPayload
   reads = record {
-    length-is = length-count m i (gap-intro m i (sound .tail));
-    epoch-good = good-epoch m i;
-    epoch-else = bad-epoch m i;
-    epoch-unused = blank-epoch m i;
-    whole = λ k e p r x. verdict-whole m i k (good-intact m i k e p r x);
-    record-lost = λ k e z p r x. verdict-lost m i k (bad-intact m i k e z p r x);
-    stale = λ k s. omega (arith, good-stale m i k s);
-    stale-only = stale-good m i;
-    damaged = λ k e r f l. good-noise m i k e r f ∙ rw (ne-eqb (suc k) len l);
-    ambiguous = λ k e r f l. good-noise m i k e r f ∙ rw (eq-eqb (suc k) len l);
-    damaged-only = λ k f p h. is-noise m i k _ (omega arith) (omega arith) h f p;
-    ambiguous-only = λ k f p h. is-noise m i k _ (omega arith) (omega arith) h f p;
-    that-or-six = stays-or-stale m i;
+    length-is = length-count (Z .m) i (gap-intro (Z .m) i (sound .tail));
+    epoch-good = good-epoch (Z .m) i;
+    epoch-else = bad-epoch (Z .m) i;
+    epoch-unused = blank-epoch (Z .m) i;
+    whole = λ k e p r x. verdict-whole (Z .m) i k (good-intact (Z .m) i k e p r x);
+    record-lost = λ k e z p r x. verdict-lost (Z .m) i k (bad-intact (Z .m) i k e z p r x);
+    stale = λ k s. omega (arith, good-stale (Z .m) i k s);
+    stale-only = stale-good (Z .m) i;
+    damaged = λ k e r f l. good-noise (Z .m) i k e r f ∙ rw (ne-eqb (suc k) len l);
+    ambiguous = λ k e r f l. good-noise (Z .m) i k e r f ∙ rw (eq-eqb (suc k) len l);
+    damaged-only = λ k f p h. is-noise (Z .m) i k _ (omega arith) (omega arith) h f p;
+    ambiguous-only = λ k f p h. is-noise (Z .m) i k _ (omega arith) (omega arith) h f p;
+    that-or-six = stays-or-stale (Z .m) i;
     misplaced = λ k j e f p h l r x d. omega (arith, elsewhere k j e f p h l r x d);
     unfinished = last-not;
     unused-fresh = last-fresh;
     unused-behind = behind;
-    present = λ s. ap (λ (t : Bool). leb 1 s && leb s m && t) (whole-verdict m i (s - 1));
+    present = λ s. ap (λ (t : Bool). leb 1 s && leb s (Z .m) && t) (whole-verdict (Z .m) i (s - 1));
     payload = there;
   }

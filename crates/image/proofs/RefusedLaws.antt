@@ -9,16 +9,16 @@ use lib.ListN.{length}
 use borrow.Author.Tests.{eqb-true, eq-eqb, leb-true}
 use Rattle.slices.specs.Parts.{Bytes, part}
 use Rattle.slices.proofs.SameLaws.{and-left, and-right, and-true}
-use Rattle.record.specs.Layout.{headerBytes}
+use Rattle.record.specs.declared.Shape.{Shape}
+use Rattle.record.specs.Layout.{headerSize, headerBytes}
 use Rattle.record.specs.Meaning.{Header, proper, improper, Record, good, blank, bad, Entry, intact, broken, readHeader}
 use Rattle.record.specs.Exactly.{HeaderIs}
 use Rattle.record.proofs.HeaderLaws.{header-is, proper-read}
 use Rattle.image.specs.Refusal.{refuse, _else_}
-use Rattle.image.specs.Image.{Image, imageSize, decodeImage}
-use Rattle.image.specs.View.{Whole, Faulty, isSize, isReplica, isSlots, isBlank, isProper, isLost, condition, conditionAt, logLength, noGap, noneLost, rising, imageRefusal, callRefusal, readRefusal}
+use Rattle.image.specs.Image.{Image, imageSize, decodeUnder, decodeImage}
+use Rattle.image.specs.View.{Whole, Faulty, isSize, isReplica, isSlots, isBlank, isProper, isLost, condition, conditionAt, logLength, noGap, noneLost, rising, imageRefusal, callRefusal, readRefusal, epochAt}
 use Rattle.image.specs.RefusalClaim.{Lowest, ReadPasses}
 use Rattle.image.proofs.CallLaws.{is-slots, slots-low, slots-high, is-size, size-low, size-high, is-replica}
-use Rattle.image.proofs.DecodeLaws.{size-is}
 use Rattle.image.proofs.ViewLaws.{length-le, used-below, blank-next, gap-elim, gap-intro, lost-elim, lost-intro, rising-intro, rising-all}
 use Rattle.image.proofs.LowestLaws.{From, Decides, try, last-of, else-assoc}
 
@@ -39,19 +39,16 @@ replica-decides n c = record {
     within : isReplica n c ≡ true → (1 ≤ c) × (c ≤ n)
     within e = unfold isReplica in (leb-true 1 c (and-left (leb 1 c) (leb c n) e), leb-true c n (and-right (leb 1 c) (leb c n) e))
 
-bytes-decides : (m size : ℕ) → Decides (eqb size (imageSize m)) (size ≡ 28 + 274 * m)
-bytes-decides m size = record {
-  so = λ e. omega (arith, eqb-true size (imageSize m) e, size-is m);
-  back = λ p. eq-eqb size (imageSize m) (omega (arith, size-is m));
-}
+bytes-decides : (Z : Shape) (c size : ℕ) → Decides (eqb size (imageSize Z c)) (size ≡ imageSize Z c)
+bytes-decides Z c size = record { so = eqb-true size (imageSize Z c); back = eq-eqb size (imageSize Z c) }
 
 -- ---- 4
 
-header-decides : (c n m : ℕ) (b : Bytes) → Decides (isProper (readHeader c n m b)) (b ≡ headerBytes c n m)
+header-decides : (Z : Shape) (c : ℕ) (b : Bytes) → Decides (isProper (readHeader Z c b)) (b ≡ headerBytes Z c)
 unfolding isProper
-header-decides c n m b = record { so = λ e. so (readHeader c n m b) (header-is c n m b) e; back = λ p. rw (proper-read c n m b p) }
+header-decides Z c b = record { so = λ e. so (readHeader Z c b) (header-is Z c b) e; back = λ p. rw (proper-read Z c b p) }
   where
-    so : (h : Header) → HeaderIs c n m b h → isProper h ≡ true → b ≡ headerBytes c n m
+    so : (h : Header) → HeaderIs Z c b h → isProper h ≡ true → b ≡ headerBytes Z c
     so proper p e = p
     so (improper z) p e = absurd (true≢false (sym e))
 
@@ -105,8 +102,8 @@ module _ (m : ℕ) (i : Image) where
 
   -- of an image without a gap
   rising-decides : noGap m i ≡ true
-      → (c n : ℕ) (b : Bytes) → Decides (rising m i) (ReadPasses c n m b i 7)
-  rising-decides g c n b = record {
+      → Decides (rising m i) ((j k : ℕ) → j < k → k < m → ¬ (i .records j ≡ blank) → ¬ (i .records k ≡ blank) → epochAt i j ≤ epochAt i k)
+  rising-decides g = record {
     so = λ r j k l h a b. let z : j + (k - j) ≡ k = omega arith in omega (arith, rw z at (rising-all m i r (k - j) j (rw z (used k h b (decLt k (logLength m i))))));
     back = λ p. rising-intro m i (λ k l. p k (suc k) (omega arith) (omega (arith, length-le m i))
         (blank-apart _ (used-below m i k (omega arith))) (blank-apart _ (used-below m i (suc k) l)));
@@ -118,12 +115,12 @@ module _ (m : ℕ) (i : Image) where
 
 -- ---- all of them
 
-module _ (c n m : ℕ) (b : Bytes) where
+module _ (Z : Shape) (c : ℕ) (b : Bytes) where
   abbrev i : Image
-  i = decodeImage c n m b
+  i = decodeImage Z c b
 
   abbrev Passes : ℕ → Type 0
-  Passes = ReadPasses c n m b (decodeImage c n m b)
+  Passes = ReadPasses Z c b (decodeImage Z c b)
 
   beyond : (q : ℕ) → 8 ≤ q → Passes q
   beyond zero h = absurd (omega arith)
@@ -136,31 +133,31 @@ module _ (c n m : ℕ) (b : Bytes) where
   beyond (suc (suc (suc (suc (suc (suc (suc zero))))))) h = absurd (omega arith)
   beyond (suc (suc (suc (suc (suc (suc (suc (suc q)))))))) h = tt
 
-  of-image : From Passes 4 (imageRefusal m i)
-  unfolding imageRefusal decodeImage
+  of-image : From Passes 4 (imageRefusal (Z .m) i)
+  unfolding imageRefusal decodeImage decodeUnder
   of-image =
-      try Passes 4 (isProper (i .header)) _ (λ e. omega arith) (header-decides c n m (part b 0 28))
-      (λ _. try Passes 5 (noGap m i) _ (λ e. omega arith) (gap-decides m i)
-      (λ g. try Passes 6 (noneLost m i) _ (λ e. omega arith) (lost-decides m i)
-      (λ _. seven (gap-decides m i .back g))))
+      try Passes 4 (isProper (i .header)) _ (λ e. omega arith) (header-decides Z c (part b 0 (headerSize Z)))
+      (λ _. try Passes 5 (noGap (Z .m) i) _ (λ e. omega arith) (gap-decides (Z .m) i)
+      (λ g. try Passes 6 (noneLost (Z .m) i) _ (λ e. omega arith) (lost-decides (Z .m) i)
+      (λ _. seven (gap-decides (Z .m) i .back g))))
     where
-      seven : noGap m i ≡ true → From Passes 7 (refuse 7 (not (rising m i)))
-      seven g = subst (From Passes 7) (end (refuse 7 (not (rising m i))))
-          (try Passes 7 (rising m i) 0 (λ e. omega arith) (rising-decides m i g c n b) (λ _. last-of Passes 8 beyond))
+      seven : noGap (Z .m) i ≡ true → From Passes 7 (refuse 7 (not (rising (Z .m) i)))
+      seven g = subst (From Passes 7) (end (refuse 7 (not (rising (Z .m) i))))
+          (try Passes 7 (rising (Z .m) i) 0 (λ e. omega arith) (rising-decides (Z .m) i g) (λ _. last-of Passes 8 beyond))
         where
           end : (r : ℕ) → (r else 0) ≡ r
           end zero = unfold _else_ in refl
           end (suc r) = unfold _else_ in refl
 
-  from-one : From Passes 1 (readRefusal c n m b)
+  from-one : From Passes 1 (readRefusal Z c b)
   unfolding readRefusal callRefusal
   from-one =
       rw (else-assoc, else-assoc)
-      (try Passes 1 (isSlots m) _ (λ e. omega arith) (slots-decides m)
-      (λ _. try Passes 2 (isSize n && isReplica n c) _ (λ e. omega arith) (replica-decides n c)
-      (λ _. try Passes 3 (eqb (length b) (imageSize m)) _ (λ e. omega arith) (bytes-decides m (length b)) (λ _. of-image))))
+      (try Passes 1 (isSlots (Z .m)) _ (λ e. omega arith) (slots-decides (Z .m))
+      (λ _. try Passes 2 (isSize (Z .n) && isReplica (Z .n) c) _ (λ e. omega arith) (replica-decides (Z .n) c)
+      (λ _. try Passes 3 (eqb (length b) (imageSize Z c)) _ (λ e. omega arith) (bytes-decides Z c (length b)) (λ _. of-image))))
 
-  pub lowest-wins : Lowest (ReadPasses c n m b (decodeImage c n m b)) (readRefusal c n m b)
+  pub lowest-wins : Lowest (ReadPasses Z c b (decodeImage Z c b)) (readRefusal Z c b)
   lowest-wins = record {
     applies = from-one .applies;
     below = λ z q h. all q (λ l. from-one .below z q l h);

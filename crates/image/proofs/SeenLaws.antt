@@ -1,45 +1,86 @@
 -- What the view of an image tells its caller.
 use Prim.Native.Nat.{ℕ}
-use mathlib.Core.Path.{_≡_, refl, sym, _∙_}
-use mathlib.Core.Bool.{Bool, true, false, cond, not}
-use mathlib.Core.List.{List}
+use mathlib.Core.Path.{_≡_, refl, sym, ap, _∙_}
+use mathlib.Core.Bool.{true, false}
+use mathlib.Core.List.{List, [], _∷_}
+use native.Mathlib.Omega.{arith}
+use types.Run.{OneOf, miss}
+use denote.Enum.Declared.{tagOf}
 use lib.ListN.{take}
-use Rattle.slices.specs.Parts.{Bytes}
-use Rattle.slices.specs.Same.{same}
+use Rattle.slices.specs.Parts.{Bytes, part}
 use Rattle.slices.proofs.PartLaws.{part-take}
-use Rattle.record.specs.Layout.{headerBytes}
-use Rattle.record.specs.Meaning.{readHeader, proper, improper}
+use Rattle.record.specs.declared.Shape.{Shape}
+use Rattle.record.specs.declared.HeaderState.{HeaderState}
+use Rattle.record.specs.declared.HeaderState.the-variants.{Proper, Improper}
+use Rattle.record.proofs.HeaderState.{the-type}
+use Rattle.record.specs.Layout.{headerSize}
+use Rattle.record.specs.Meaning.{Header, proper, improper, firstIndex, readHeader}
+use Rattle.record.specs.Judged.{headerAnswer}
 use Rattle.image.specs.Refusal.{refuse, _else_}
-use Rattle.image.specs.Image.{Image, decodeImage}
+use Rattle.image.specs.Image.{Image, decodeUnder, firstIn, decodeImage}
 use Rattle.image.specs.View.{isProper, imageRefusal}
 use Rattle.image.specs.Seen.{Seen}
 use Rattle.image.specs.Scan.{Scanned, lengthIn, scanRefusal}
 use Rattle.image.proofs.ScannedLaws.{length-scanned, refusal-scanned}
+use Rattle.image.proofs.DecodeLaws.{first-is}
 
-module _ (c n m : ℕ) (b : Bytes) (r : Bool) (e : r ≡ same (take 28 b) (headerBytes c n m)) where
-  headed : isProper (decodeImage c n m b .header) ≡ r
-  unfolding decodeImage readHeader isProper
-  headed = rw part-take (go (same (take 28 b) (headerBytes c n m)) ∙ sym e)
-    where
-      go : (t : Bool) → isProper (cond t proper (improper (take 28 b))) ≡ t
-      go true = refl
-      go false = refl
+-- a header without the tag of the other case is improper
+pub is-improper : (a : HeaderState) → OneOf (1 ∷ []) (tagOf the-type a) → a ≡ Improper
+is-improper (Proper first) h = absurd (miss (1 ∷ []) 0 tt h)
+is-improper Improper h = refl
+
+-- what each answer of the judge says of a header
+answered-improper : (h : Header) {a : HeaderState} → a ≡ headerAnswer h → a ≡ Improper → isProper h ≡ false
+unfolding headerAnswer isProper
+answered-improper proper e q = absurd (let z : _≡_ {A = ℕ} 0 1 = cc in omega arith)
+answered-improper (improper b) e q = refl
+
+answered-proper : (h : Header) {a : HeaderState} {first : ℕ} → a ≡ headerAnswer h → a ≡ Proper first → isProper h ≡ true
+unfolding headerAnswer isProper
+answered-proper proper e q = refl
+answered-proper (improper b) e q = absurd (let z : _≡_ {A = ℕ} 0 1 = cc in omega arith)
+
+answered-first : (h : Header) {a : HeaderState} {first : ℕ} → a ≡ headerAnswer h → a ≡ Proper first → first ≡ firstIndex h
+unfolding headerAnswer
+answered-first proper {a} {first} e q = let z : first ≡ firstIndex proper = cc in z
+answered-first (improper b) e q = absurd (let z : _≡_ {A = ℕ} 0 1 = cc in omega arith)
+
+module _ (Z : Shape) (c : ℕ) (b : Bytes) {a : HeaderState} (e : a ≡ headerAnswer (readHeader Z c (take (headerSize Z) b))) where
+  header-is : readHeader Z c (take (headerSize Z) b) ≡ decodeImage Z c b .header
+  unfolding decodeImage decodeUnder
+  header-is = rw part-take
+
+  judged : a ≡ headerAnswer (decodeImage Z c b .header)
+  judged = e ∙ ap headerAnswer header-is
 
   -- refusal 4 comes first
-  pub view-header : not r ≡ true → 4 ≡ imageRefusal m (decodeImage c n m b)
+  pub view-improper : a ≡ Improper → 4 ≡ imageRefusal (Z .m) (decodeImage Z c b)
   unfolding imageRefusal refuse _else_
-  view-header h = sym (rw (headed, h))
+  view-improper q = sym (rw (answered-improper (decodeImage Z c b .header) judged q))
 
-  -- else the scan decides
-  pub view-scanned : (len refusal : ℕ) (cs es : List ℕ) → not r ≡ false → Scanned m (decodeImage c n m b) cs es → len ≡ lengthIn m cs
-      → refusal ≡ scanRefusal m len cs es → refusal ≡ imageRefusal m (decodeImage c n m b)
-  unfolding imageRefusal refuse _else_
-  view-scanned len refusal cs es h s l q =
-      q ∙ refusal-scanned m (decodeImage c n m b) cs es s len (l ∙ length-scanned m (decodeImage c n m b) cs es s) ∙ sym (rw (headed, h))
+  -- else the image is taken apart under the index that its header gives, and the scan decides
+  module _ {first : ℕ} (q : a ≡ Proper first) where
+    pub view-first : first ≡ firstIn Z c b
+    view-first = answered-first (decodeImage Z c b .header) judged q ∙ first-is Z c b
 
-pub scanned-seen : (m : ℕ) (i : Image) (len : ℕ) (cs es : List ℕ) → Scanned m i cs es → len ≡ lengthIn m cs → Seen m i len cs es
-scanned-seen m i len cs es s l = record {
-  length-is = l ∙ length-scanned m i cs es s;
-  conditions-are = s .conditions-are;
-  epochs-are = s .epochs-are;
-}
+    view-under : decodeUnder Z c first b ≡ decodeImage Z c b
+    unfolding decodeImage
+    view-under = ap (λ (z : ℕ). decodeUnder Z c z b) view-first
+
+    module _ {len : ℕ} {cs es : List ℕ} (s : Scanned (Z .m) (decodeUnder Z c first b) cs es) (l : len ≡ lengthIn (Z .m) cs) where
+      scanned : Scanned (Z .m) (decodeImage Z c b) cs es
+      scanned = rw view-under at s
+
+      pub view-scanned : {refusal : ℕ} → refusal ≡ scanRefusal (Z .m) len cs es → refusal ≡ imageRefusal (Z .m) (decodeImage Z c b)
+      unfolding imageRefusal refuse _else_
+      view-scanned r =
+          r ∙ refusal-scanned (Z .m) (decodeImage Z c b) cs es scanned len (l ∙ length-scanned (Z .m) (decodeImage Z c b) cs es scanned)
+          ∙ sym (rw (answered-proper (decodeImage Z c b .header) judged q))
+
+      pub view-seen : Seen (Z .m) (decodeImage Z c b) first len cs es
+      view-seen = record {
+        first-is = view-first ∙ sym (first-is Z c b);
+        length-is = l ∙ length-scanned (Z .m) (decodeImage Z c b) cs es scanned;
+        conditions-are = scanned .conditions-are;
+        epochs-are = scanned .epochs-are;
+      }

@@ -12,6 +12,7 @@ use borrow.Author.Tests.{eq-eqb, ne-eqb}
 use Rattle.search.specs.Search.{listed}
 use Rattle.slices.specs.Parts.{Bytes}
 use Rattle.slices.proofs.SpliceLaws.{part-lent}
+use Rattle.record.specs.declared.Shape.{Shape}
 use Rattle.record.specs.Meaning.{Record, good, blank, bad, Entry, intact, broken, readRecord, readEntry}
 use Rattle.record.specs.Judged.{recordAnswer, entryAnswer}
 use Rattle.record.specs.declared.RecordState.{RecordState}
@@ -19,23 +20,23 @@ use Rattle.record.specs.declared.RecordState.the-variants.{Good, Blank, Bad}
 use Rattle.record.specs.declared.EntryState.{EntryState}
 use Rattle.record.specs.declared.EntryState.the-variants.{Intact, Broken}
 use Rattle.record.proofs.RecordState.{the-type}
-use Rattle.image.specs.Image.{Image, recordAt, entryAt, decodeImage}
+use Rattle.image.specs.Image.{Image, index, recordAt, entryAt, decodeUnder}
 use Rattle.image.specs.View.{condition, epochOf, conditionAt, epochAt}
 use Rattle.image.specs.View.{conditionNumber}
 use Rattle.image.specs.Seen.{conditionsOf}
 use Rattle.image.specs.Scan.{SlotIs, Scanned}
-use Rattle.image.proofs.DecodeLaws.{record-there, entry-there}
+use Rattle.image.proofs.DecodeLaws.{record-under, entry-under}
 
 -- ---- the parts of the image that are judged
 
-module _ (m : ℕ) (b : Bytes) (k : ℕ) (h : k < m) {at : ℕ} where
-  pub record-judged : at ≡ recordAt k → {a : RecordState} → a ≡ recordAnswer (readRecord (k + 1) (take (at + 34 - at) (drop at b)))
-      → (c n : ℕ) → a ≡ recordAnswer (decodeImage c n m b .records k)
-  record-judged p e c n = e ∙ rw (add-one, part-lent b at 34, record-there c n m b k h, p)
+module _ (Z : Shape) (first : ℕ) (b : Bytes) (k : ℕ) (h : k < Z .m) {at j : ℕ} (q : j ≡ index first k) where
+  pub record-judged : at ≡ recordAt Z k → {a : RecordState} → a ≡ recordAnswer (readRecord j (take (at + 34 - at) (drop at b)))
+      → (c : ℕ) → a ≡ recordAnswer (decodeUnder Z c first b .records k)
+  record-judged p e c = e ∙ rw (q, part-lent b at 34, record-under Z c first b k h, p)
 
-  pub entry-judged : at ≡ entryAt m k → {a : EntryState} → a ≡ entryAnswer (readEntry (k + 1) (take (at + 240 - at) (drop at b)))
-      → (c n : ℕ) → a ≡ entryAnswer (decodeImage c n m b .entries k)
-  entry-judged p e c n = e ∙ rw (add-one, part-lent b at 240, entry-there c n m b k h, p)
+  pub entry-judged : at ≡ entryAt Z k → {a : EntryState} → a ≡ entryAnswer (readEntry j (take (at + 240 - at) (drop at b)))
+      → (c : ℕ) → a ≡ entryAnswer (decodeUnder Z c first b .entries k)
+  entry-judged p e c = e ∙ rw (q, part-lent b at 240, entry-under Z c first b k h, p)
 
 -- ---- a good record
 

@@ -12,6 +12,7 @@ use Rattle.slices.specs.Same.{same}
 use Rattle.slices.proofs.SameLaws.{and-off, same-differs}
 use Rattle.slices.proofs.PartLaws.{length-part}
 use Rattle.slices.proofs.SpliceLaws.{part-lent}
+use Rattle.record.specs.declared.Shape.{Shape}
 use Rattle.record.specs.Layout.{freshEntry}
 use Rattle.record.specs.Meaning.{Entry, intact, broken, readEntry}
 use Rattle.record.specs.Exactly.{EntryIs}
@@ -19,14 +20,14 @@ use Rattle.record.specs.Judged.{entryAnswer}
 use Rattle.record.specs.declared.EntryState.{EntryState}
 use Rattle.record.specs.declared.EntryState.the-variants.{Intact, Broken}
 use Rattle.record.proofs.EntryLaws.{entry-is, fresh-not-intact}
-use Rattle.image.specs.Image.{Image, imageSize, entryAt, decodeImage}
+use Rattle.image.specs.Image.{Image, imageSize, entryAt, index, decodeUnder}
 use Rattle.image.specs.View.{Condition, Unused, Whole, RecordLost, Faulty, Lost, conditionAt}
 use Rattle.image.specs.View.{conditionNumber}
 use Rattle.image.specs.Seen.{conditionsOf}
 use Rattle.image.specs.Verdict.{isFresh, verdictOf, verdictAt}
 use Rattle.image.specs.Scan.{Marked}
 use Rattle.image.specs.Read.{verdictsOf}
-use Rattle.image.proofs.DecodeLaws.{entry-there, entry-fits}
+use Rattle.image.proofs.DecodeLaws.{entry-under, entry-ends}
 use Rattle.image.proofs.ScannedLaws.{taken-at}
 use Rattle.image.proofs.SlotLaws.{apart, list-more, list-end}
 
@@ -61,14 +62,14 @@ fresh-is k s = go (readEntry k s) (entry-is k s)
     go (intact e p) i = sym (same-differs s freshEntry (λ q. fresh-not-intact k e p (rw q at i)))
     go (broken z) h = rw (h .0)
 
-module _ (m : ℕ) (b : Bytes) (k : ℕ) (size : length b ≡ imageSize m) {at : ℕ} (place : at ≡ entryAt m k) where
+module _ (Z : Shape) (first : ℕ) (b : Bytes) (k : ℕ) (size : entryAt Z (Z .m) ≤ length b) {at : ℕ} (place : at ≡ entryAt Z k) where
   pub fresh-judged : {t : Bool} → t ≡ same (take (at + 240 - at) (drop at b)) (replicate (length (take (at + 240 - at) (drop at b))) 32)
-      → (c n : ℕ) → k < m → t ≡ isFresh (decodeImage c n m b .entries k)
+      → (c : ℕ) → k < Z .m → t ≡ isFresh (decodeUnder Z c first b .entries k)
   unfolding freshEntry
-  fresh-judged e c n h =
-      let l : length (part b at 240) ≡ 240 = length-part b at 240 (omega (arith, entry-fits m k h)) in
-      let q : same (take (at + 240 - at) (drop at b)) (replicate (length (take (at + 240 - at) (drop at b))) 32) ≡ isFresh (decodeImage c n m b .entries k)
-      = rw (part-lent b at 240, l, entry-there c n m b k h, ← place) (sym (fresh-is (suc k) (part b at 240))) in
+  fresh-judged e c h =
+      let l : length (part b at 240) ≡ 240 = length-part b at 240 (omega (arith, entry-ends Z k h)) in
+      let q : same (take (at + 240 - at) (drop at b)) (replicate (length (take (at + 240 - at) (drop at b))) 32) ≡ isFresh (decodeUnder Z c first b .entries k)
+      = rw (part-lent b at 240, l, entry-under Z c first b k h, ← place) (sym (fresh-is (index first k) (part b at 240))) in
       e ∙ q
 
 -- ---- the verdict of a slot

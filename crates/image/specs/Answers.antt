@@ -5,6 +5,7 @@ use mathlib.Core.List.{List}
 use lib.Dec.{eqb}
 use lib.ListN.{length}
 use Rattle.slices.specs.Parts.{Bytes}
+use Rattle.record.specs.declared.Shape.{Shape}
 use Rattle.image.specs.Refusal.{unlessRefused}
 use Rattle.image.specs.Image.{decodeImage}
 use Rattle.image.specs.View.{callRefusal, readRefusal, logLength}
@@ -49,25 +50,25 @@ payloadNumbers payload.Present = value true
 payloadNumbers payload.Absent = value false
 payloadNumbers (payload.Refused r) = refused r
 
--- a fresh image of replica c, of n, with m slots, in a buffer of so many bytes: the answer
-abbrev pub formatCallNumbers : ℕ → ℕ → ℕ → ℕ → Numbered (Unit {0})
-formatCallNumbers c n m size = numbered (callRefusal c n m size) tt
+-- a fresh image of replica c, in a buffer of so many bytes: the answer
+abbrev pub formatCallNumbers : Shape → ℕ → ℕ → Numbered (Unit {0})
+formatCallNumbers Z c size = numbered (callRefusal Z c size) tt
 
--- reading replica c's image, of n, with m slots, lent buffers of so many epochs and verdicts: the answer
-abbrev pub readCallNumbers : ℕ → ℕ → ℕ → Bytes → ℕ → ℕ → Numbered ℕ
-readCallNumbers c n m b epochs verdicts = numbered (lentRefusal c n m b epochs verdicts) (logLength m (decodeImage c n m b))
+-- reading replica c's image, lent buffers of so many epochs and verdicts: the answer
+abbrev pub readCallNumbers : Shape → ℕ → Bytes → ℕ → ℕ → Numbered ℕ
+readCallNumbers Z c b epochs verdicts = numbered (lentRefusal Z c b epochs verdicts) (logLength (Z .m) (decodeImage Z c b))
 
 -- what it leaves in them
-abbrev pub epochsLeft : ℕ → ℕ → ℕ → Bytes → List ℕ → ℕ → List ℕ
-epochsLeft c n m b epochs verdicts = unlessRefused (lentRefusal c n m b (length epochs) verdicts) (epochsOf m (decodeImage c n m b)) epochs
+abbrev pub epochsLeft : Shape → ℕ → Bytes → List ℕ → ℕ → List ℕ
+epochsLeft Z c b epochs verdicts = unlessRefused (lentRefusal Z c b (length epochs) verdicts) (epochsOf (Z .m) (decodeImage Z c b)) epochs
 
-abbrev pub verdictsLeft : ℕ → ℕ → ℕ → Bytes → ℕ → List ℕ → List ℕ
-verdictsLeft c n m b epochs verdicts = unlessRefused (lentRefusal c n m b epochs (length verdicts)) (verdictsOf m (decodeImage c n m b)) verdicts
+abbrev pub verdictsLeft : Shape → ℕ → Bytes → ℕ → List ℕ → List ℕ
+verdictsLeft Z c b epochs verdicts = unlessRefused (lentRefusal Z c b epochs (length verdicts)) (verdictsOf (Z .m) (decodeImage Z c b)) verdicts
 
 -- an append to replica c's image, of epoch e and a payload of so many bytes: the first unused slot's number
-abbrev pub appendCallNumbers : ℕ → ℕ → ℕ → Bytes → ℕ → ℕ → Numbered ℕ
-appendCallNumbers c n m b e size = numbered (appendRefusal c n m b e size) (suc (logLength m (decodeImage c n m b)))
+abbrev pub appendCallNumbers : Shape → ℕ → Bytes → ℕ → ℕ → Numbered ℕ
+appendCallNumbers Z c b e size = numbered (appendRefusal Z c b e size) (suc (logLength (Z .m) (decodeImage Z c b)))
 
 -- whether slot number s of replica c's image has a payload
-abbrev pub payloadCallNumbers : ℕ → ℕ → ℕ → Bytes → ℕ → Numbered Bool
-payloadCallNumbers c n m b s = numbered (readRefusal c n m b) (hasPayload m (decodeImage c n m b) s)
+abbrev pub payloadCallNumbers : Shape → ℕ → Bytes → ℕ → Numbered Bool
+payloadCallNumbers Z c b s = numbered (readRefusal Z c b) (hasPayload (Z .m) (decodeImage Z c b) s)

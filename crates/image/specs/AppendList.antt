@@ -5,6 +5,7 @@ use mathlib.Core.Bool.{true}
 use mathlib.Core.List.{List, [], _∷_, _++_, map}
 use lib.ListN.{length, getD, replicate}
 use Rattle.slices.specs.Parts.{Bytes}
+use Rattle.record.specs.declared.Shape.{Shape}
 use Rattle.image.specs.Image.{decodeImage}
 use Rattle.image.specs.View.{readRefusal, logLength}
 use Rattle.image.specs.Read.{epochsOf, verdictsOf, hasPayload, payloadOf}
@@ -15,17 +16,17 @@ pub record Appending : Type 0 where
   pub epoch : ℕ
   pub payload : Bytes
 
-unfoldable pub appendAll : ℕ → ℕ → ℕ → Bytes → List Appending → Bytes
-appendAll c n m b [] = b
-appendAll c n m b (a ∷ l) = appendAll c n m (appended c n m b (a .epoch) (a .payload)) l
+unfoldable pub appendAll : Shape → ℕ → Bytes → List Appending → Bytes
+appendAll Z c b [] = b
+appendAll Z c b (a ∷ l) = appendAll Z c (appended Z c b (a .epoch) (a .payload)) l
 
 -- each is given an epoch of 32 bits and is accepted
-unfoldable pub Accepted : ℕ → ℕ → ℕ → Bytes → List Appending → Type 0
-Accepted c n m b [] = Unit {0}
-Accepted c n m b (a ∷ l) =
+unfoldable pub Accepted : Shape → ℕ → Bytes → List Appending → Type 0
+Accepted Z c b [] = Unit {0}
+Accepted Z c b (a ∷ l) =
     (a .epoch ≤ 4294967295)
-    × (appendRefusal c n m b (a .epoch) (length (a .payload)) ≡ 0)
-    × Accepted c n m (appended c n m b (a .epoch) (a .payload)) l
+    × (appendRefusal Z c b (a .epoch) (length (a .payload)) ≡ 0)
+    × Accepted Z c (appended Z c b (a .epoch) (a .payload)) l
 
 abbrev pub epochsIn : List Appending → List ℕ
 epochsIn l = map (λ (a : Appending). a .epoch) l
@@ -34,10 +35,10 @@ abbrev pub payloadsIn : List Appending → List Bytes
 payloadsIn l = map (λ (a : Appending). a .payload) l
 
 -- reading b answers these: so many slots, their epochs and then 0, verdicts 1 and then 0, their payloads and no others
-pub record ReadsAs (c n m : ℕ) (b : Bytes) (l : List Appending) : Type 0 where
-  pub readable : readRefusal c n m b ≡ 0
-  pub many : logLength m (decodeImage c n m b) ≡ length l
-  pub epochs : epochsOf m (decodeImage c n m b) ≡ epochsIn l ++ replicate (m - length l) 0
-  pub verdicts : verdictsOf m (decodeImage c n m b) ≡ replicate (length l) 1 ++ replicate (m - length l) 0
-  pub present : (k : ℕ) → k < length l → hasPayload m (decodeImage c n m b) (suc k) ≡ true
-  pub payloads : (k : ℕ) → payloadOf c n m b (suc k) ≡ getD (payloadsIn l) k []
+pub record ReadsAs (Z : Shape) (c : ℕ) (b : Bytes) (l : List Appending) : Type 0 where
+  pub readable : readRefusal Z c b ≡ 0
+  pub many : logLength (Z .m) (decodeImage Z c b) ≡ length l
+  pub epochs : epochsOf (Z .m) (decodeImage Z c b) ≡ epochsIn l ++ replicate (Z .m - length l) 0
+  pub verdicts : verdictsOf (Z .m) (decodeImage Z c b) ≡ replicate (length l) 1 ++ replicate (Z .m - length l) 0
+  pub present : (k : ℕ) → k < length l → hasPayload (Z .m) (decodeImage Z c b) (suc k) ≡ true
+  pub payloads : (k : ℕ) → payloadOf Z c b (suc k) ≡ getD (payloadsIn l) k []

@@ -1,22 +1,27 @@
 -- Document 01's fleet: n images of m slots end to end in one buffer. Replicas count from 0 here: replica c has number c + 1.
-use Prim.Native.Nat.{ℕ, suc, _+_, _*_}
-use Rattle.search.specs.Search.{joined}
+use Prim.Native.Nat.{ℕ, suc}
+use Rattle.search.specs.Search.{sum, joined}
 use Rattle.slices.specs.Parts.{Bytes, part}
-use Rattle.image.specs.Image.{Image, imageSize, decodeImage, encodeImage}
+use Rattle.record.specs.declared.Shape.{Shape}
+use Rattle.image.specs.Image.{Image, imageSize, firstIn, decodeImage, encodeImage}
 
 abbrev pub Cluster : Type 0
 Cluster = ℕ → Image
 
--- where the image of replica c begins, and where n of them end
-unfoldable pub imageAt : ℕ → ℕ → ℕ
-imageAt m c = imageSize m * c
+-- where the image of replica c begins, behind those before it; and where n of them end
+unfoldable pub imageAt : Shape → ℕ → ℕ
+imageAt Z c = sum (λ d. imageSize Z (suc d)) c
 
 -- the bytes of replica c
-unfoldable pub imagePart : ℕ → Bytes → ℕ → Bytes
-imagePart m b c = part b (imageAt m c) (imageSize m)
+unfoldable pub imagePart : Shape → Bytes → ℕ → Bytes
+imagePart Z b c = part b (imageAt Z c) (imageSize Z (suc c))
 
-unfoldable pub decode : ℕ → ℕ → Bytes → Cluster
-decode n m b c = decodeImage (suc c) n m (imagePart m b c)
+-- the index that its log begins at
+unfoldable pub firstAt : Shape → Bytes → ℕ → ℕ
+firstAt Z b c = firstIn Z (suc c) (imagePart Z b c)
 
-unfoldable pub encode : ℕ → ℕ → Cluster → Bytes
-encode n m F = joined n (λ c. encodeImage (suc c) n m (F c))
+unfoldable pub decode : Shape → Bytes → Cluster
+decode Z b c = decodeImage Z (suc c) (imagePart Z b c)
+
+unfoldable pub encode : Shape → Cluster → Bytes
+encode Z F = joined (Z .n) (λ c. encodeImage Z (suc c) (F c))

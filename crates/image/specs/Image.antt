@@ -1,42 +1,55 @@
--- An image taken apart: document 01's card image as a header, and a record and an entry for each slot. Slots count from 0 here: slot k has index k + 1.
+-- An image taken apart: document 01's card image as a header, and a record and an entry for each slot. Slots count from 0 here.
 use Prim.Native.Nat.{ℕ, suc, _+_, _*_}
 use mathlib.Core.Bool.{cond}
 use mathlib.Core.List.{[], _++_}
 use lib.Dec.{ltb}
 use Rattle.search.specs.Search.{joined}
 use Rattle.slices.specs.Parts.{Bytes, part}
+use Rattle.record.specs.declared.Shape.{Shape}
 use Rattle.record.specs.Layout.{headerSize, recordSize, entrySize, headerBytes, blankRecord, freshEntry}
-use Rattle.record.specs.Meaning.{Header, Record, blank, Entry, broken, readHeader, readRecord, readEntry, writeHeader, writeRecord, writeEntry}
+use Rattle.record.specs.Meaning.{Header, firstIndex, Record, blank, Entry, broken, readHeader, readRecord, readEntry, writeHeader, writeRecord, writeEntry}
 
 pub record Image : Type 0 where
   pub header : Header
   pub records : ℕ → Record
   pub entries : ℕ → Entry
 
--- an image of m slots is 28 + 274 × m bytes: the header, the records, the entries
-unfoldable pub imageSize : ℕ → ℕ
-imageSize m = headerSize + recordSize * m + entrySize * m
+-- 01's index of slot k, of a log whose first slot has this index
+unfoldable pub index : ℕ → ℕ → ℕ
+index first k = first + k
 
-unfoldable pub recordAt : ℕ → ℕ
-recordAt k = headerSize + recordSize * k
+-- the image of replica c (from 1), of m slots, is 28 + 274 × m bytes: the header, the records, the entries
+unfoldable pub imageSize : Shape → ℕ → ℕ
+imageSize Z c = headerSize Z + recordSize * Z .m + entrySize * Z .m
 
-unfoldable pub entryAt : ℕ → ℕ → ℕ
-entryAt m k = headerSize + recordSize * m + entrySize * k
+-- where the record and the entry of slot k begin in their image
+unfoldable pub recordAt : Shape → ℕ → ℕ
+recordAt Z k = headerSize Z + recordSize * k
 
--- what the bytes of the image of replica c (from 1), of n, with m slots mean
-unfoldable pub decodeImage : ℕ → ℕ → ℕ → Bytes → Image
-decodeImage c n m b = record {
-  header = readHeader c n m (part b 0 headerSize);
-  records = λ k. cond (ltb k m) (readRecord (suc k) (part b (recordAt k) recordSize)) blank;
-  entries = λ k. cond (ltb k m) (readEntry (suc k) (part b (entryAt m k) entrySize)) (broken []);
+unfoldable pub entryAt : Shape → ℕ → ℕ
+entryAt Z k = headerSize Z + recordSize * Z .m + entrySize * k
+
+-- what the bytes of the image of replica c (from 1) mean, if its log begins at this index
+unfoldable pub decodeUnder : Shape → ℕ → ℕ → Bytes → Image
+decodeUnder Z c first b = record {
+  header = readHeader Z c (part b 0 (headerSize Z));
+  records = λ k. cond (ltb k (Z .m)) (readRecord (index first k) (part b (recordAt Z k) recordSize)) blank;
+  entries = λ k. cond (ltb k (Z .m)) (readEntry (index first k) (part b (entryAt Z k) entrySize)) (broken []);
 }
 
-unfoldable pub encodeImage : ℕ → ℕ → ℕ → Image → Bytes
-encodeImage c n m i =
-    writeHeader c n m (i .header)
-    ++ joined m (λ k. writeRecord (suc k) (i .records k))
-    ++ joined m (λ k. writeEntry (suc k) (i .entries k))
+-- it begins where its header says
+unfoldable pub firstIn : Shape → ℕ → Bytes → ℕ
+firstIn Z c b = firstIndex (readHeader Z c (part b 0 (headerSize Z)))
+
+unfoldable pub decodeImage : Shape → ℕ → Bytes → Image
+decodeImage Z c b = decodeUnder Z c (firstIn Z c b) b
+
+unfoldable pub encodeImage : Shape → ℕ → Image → Bytes
+encodeImage Z c i =
+    writeHeader Z c (i .header)
+    ++ joined (Z .m) (λ k. writeRecord (index (firstIndex (i .header)) k) (i .records k))
+    ++ joined (Z .m) (λ k. writeEntry (index (firstIndex (i .header)) k) (i .entries k))
 
 -- 01's fresh image: a header, blank records and fresh entries
-unfoldable pub freshImage : ℕ → ℕ → ℕ → Bytes
-freshImage c n m = headerBytes c n m ++ joined m (λ k. blankRecord) ++ joined m (λ k. freshEntry)
+unfoldable pub freshImage : Shape → ℕ → Bytes
+freshImage Z c = headerBytes Z c ++ joined (Z .m) (λ k. blankRecord) ++ joined (Z .m) (λ k. freshEntry)

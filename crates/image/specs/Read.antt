@@ -6,6 +6,8 @@ use lib.Dec.{eqb, leb}
 use lib.ListN.{length}
 use Rattle.search.specs.Search.{listed}
 use Rattle.slices.specs.Parts.{Bytes, part}
+use Rattle.record.specs.declared.Shape.{Shape}
+use Rattle.record.specs.Layout.{entrySize}
 use Rattle.record.specs.Meaning.{Entry, intact, broken, entryPayload}
 use Rattle.image.specs.Refusal.{refuse, _else_}
 use Rattle.image.specs.Image.{Image, decodeImage, entryAt}
@@ -13,8 +15,8 @@ use Rattle.image.specs.View.{readRefusal, logLength, epochAt, conditionA
 use Rattle.image.specs.Verdict.{verdictAt}
 
 -- 13 if a lent buffer (epochs, verdicts) has the wrong length, after all else that applies
-unfoldable pub lentRefusal : ℕ → ℕ → ℕ → Bytes → ℕ → ℕ → ℕ
-lentRefusal c n m b epochs verdicts = readRefusal c n m b else refuse 13 (not (eqb epochs m && eqb verdicts m))
+unfoldable pub lentRefusal : Shape → ℕ → Bytes → ℕ → ℕ → ℕ
+lentRefusal Z c b epochs verdicts = readRefusal Z c b else refuse 13 (not (eqb epochs (Z .m) && eqb verdicts (Z .m)))
 
 unfoldable pub epochsOf : ℕ → Image → List ℕ
 epochsOf m i = listed m (epochAt i)
@@ -31,10 +33,10 @@ unfoldable pub hasPayload : ℕ → Image → ℕ → Bool
 hasPayload m i s = leb 1 s && leb s m && isWhole (conditionAt i (s - 1))
 
 -- its part of the image, or the empty part
-unfoldable pub payloadOf : ℕ → ℕ → ℕ → Bytes → ℕ → Bytes
-payloadOf c n m b s =
-    cond (eqb (readRefusal c n m b) 0 && hasPayload m (decodeImage c n m b) s) (entryPayload (part b (entryAt m (s - 1)) 240)) []
+unfoldable pub payloadOf : Shape → ℕ → Bytes → ℕ → Bytes
+payloadOf Z c b s =
+    cond (eqb (readRefusal Z c b) 0 && hasPayload (Z .m) (decodeImage Z c b) s) (entryPayload (part b (entryAt Z (s - 1)) entrySize)) []
 
 -- where that part begins in the image, 0 if there is no payload
-unfoldable pub payloadAt : ℕ → ℕ → ℕ → Bytes → ℕ → ℕ
-payloadAt c n m b s = cond (eqb (readRefusal c n m b) 0 && hasPayload m (decodeImage c n m b) s) (entryAt m (s - 1) + 26) 0
+unfoldable pub payloadAt : Shape → ℕ → Bytes → ℕ → ℕ
+payloadAt Z c b s = cond (eqb (readRefusal Z c b) 0 && hasPayload (Z .m) (decodeImage Z c b) s) (entryAt Z (s - 1) + 26) 0

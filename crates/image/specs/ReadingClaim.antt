@@ -5,10 +5,11 @@ use mathlib.Core.Bool.{true, cond, not, _&&_, _||_}
 use lib.Dec.{eqb, leb}
 use Rattle.search.specs.Search.{count}
 use Rattle.slices.specs.Parts.{Bytes, part}
-use Rattle.record.specs.Layout.{freshEntry}
+use Rattle.record.specs.declared.Shape.{Shape}
+use Rattle.record.specs.Layout.{entrySize, freshEntry}
 use Rattle.record.specs.Meaning.{good, blank, bad, intact}
 use Rattle.record.specs.Exactly.{IntactFor}
-use Rattle.image.specs.Image.{Image, entryAt, decodeImage}
+use Rattle.image.specs.Image.{Image, index, firstIn, entryAt, decodeImage}
 use Rattle.image.specs.View.{isBlank, epochAt, logLength, readRefusal}
 use Rattle.image.specs.Verdict.{verdictAt}
 use Rattle.image.specs.Read.{hasPayload, payloadOf}
@@ -23,38 +24,38 @@ pub record Stale (i : Image) (k : ℕ) : Type 0 where
   pub other-epoch : ¬ (written ≡ recorded)
 
 -- of bytes b, whose image is i, with a log of so many slots
-pub record Reading (c n m : ℕ) (b : Bytes) (i : Image) (len : ℕ) : Type 0 where
+pub record Reading (Z : Shape) (c : ℕ) (b : Bytes) (i : Image) (len : ℕ) : Type 0 where
   -- the log's length is the number of used slots: those with a record that is not blank
-  pub length-is : len ≡ count (λ k. not (isBlank (i .records k))) m
+  pub length-is : len ≡ count (λ k. not (isBlank (i .records k))) (Z .m)
   -- a slot's epoch is its record's if good, else its entry's; 0 if unused
   pub epoch-good : (k e : ℕ) → i .records k ≡ good e → epochAt i k ≡ e
   pub epoch-else : (k e : ℕ) (z p : Bytes) → i .records k ≡ bad z → i .entries k ≡ intact e p → epochAt i k ≡ e
   pub epoch-unused : (k : ℕ) → i .records k ≡ blank → epochAt i k ≡ 0
   -- 1: a good record beside an intact entry of its epoch; 2: a bad record beside an intact entry
-  pub whole : (k e : ℕ) (p : Bytes) → i .records k ≡ good e → i .entries k ≡ intact e p → verdictAt m i k ≡ 1
-  pub record-lost : (k e : ℕ) (z p : Bytes) → i .records k ≡ bad z → i .entries k ≡ intact e p → verdictAt m i k ≡ 2
+  pub whole : (k e : ℕ) (p : Bytes) → i .records k ≡ good e → i .entries k ≡ intact e p → verdictAt (Z .m) i k ≡ 1
+  pub record-lost : (k e : ℕ) (z p : Bytes) → i .records k ≡ bad z → i .entries k ≡ intact e p → verdictAt (Z .m) i k ≡ 2
   -- 6: stale, and nothing else; at the last used slot too
-  pub stale : (k : ℕ) → Stale i k → verdictAt m i k ≡ 6
-  pub stale-only : (k : ℕ) → verdictAt m i k ≡ 6 → Stale i k
+  pub stale : (k : ℕ) → Stale i k → verdictAt (Z .m) i k ≡ 6
+  pub stale-only : (k : ℕ) → verdictAt (Z .m) i k ≡ 6 → Stale i k
   -- 3: a good record whose entry is not intact at all; 4: as 3, at the last used slot
-  pub damaged : (k e : ℕ) → i .records k ≡ good e → ((f : ℕ) (p : Bytes) → ¬ (i .entries k ≡ intact f p)) → ¬ (suc k ≡ len) → verdictAt m i k ≡ 3
-  pub ambiguous : (k e : ℕ) → i .records k ≡ good e → ((f : ℕ) (p : Bytes) → ¬ (i .entries k ≡ intact f p)) → suc k ≡ len → verdictAt m i k ≡ 4
-  pub damaged-only : (k f : ℕ) (p : Bytes) → verdictAt m i k ≡ 3 → ¬ (i .entries k ≡ intact f p)
-  pub ambiguous-only : (k f : ℕ) (p : Bytes) → verdictAt m i k ≡ 4 → ¬ (i .entries k ≡ intact f p)
+  pub damaged : (k e : ℕ) → i .records k ≡ good e → ((f : ℕ) (p : Bytes) → ¬ (i .entries k ≡ intact f p)) → ¬ (suc k ≡ len) → verdictAt (Z .m) i k ≡ 3
+  pub ambiguous : (k e : ℕ) → i .records k ≡ good e → ((f : ℕ) (p : Bytes) → ¬ (i .entries k ≡ intact f p)) → suc k ≡ len → verdictAt (Z .m) i k ≡ 4
+  pub damaged-only : (k f : ℕ) (p : Bytes) → verdictAt (Z .m) i k ≡ 3 → ¬ (i .entries k ≡ intact f p)
+  pub ambiguous-only : (k f : ℕ) (p : Bytes) → verdictAt (Z .m) i k ≡ 4 → ¬ (i .entries k ≡ intact f p)
   -- where document 01 had 3, and 4 at the last used slot (an entry that is not intact with its record's epoch), it is that or 6
   pub that-or-six : (k e : ℕ) → i .records k ≡ good e → ((p : Bytes) → ¬ (i .entries k ≡ intact e p))
-      → (eqb (verdictAt m i k) 6 || eqb (verdictAt m i k) (cond (eqb (suc k) len) 4 3)) ≡ true
+      → (eqb (verdictAt (Z .m) i k) 6 || eqb (verdictAt (Z .m) i k) (cond (eqb (suc k) len) 4 3)) ≡ true
   -- an entry that is intact for another slot is noise
-  pub misplaced : (k j e f : ℕ) (p : Bytes) → k < m → j ≤ m → i .records k ≡ good e → IntactFor j f p (part b (entryAt m k) 240) → ¬ (j ≡ suc k)
-      → verdictAt m i k ≡ cond (eqb (suc k) len) 4 3
+  pub misplaced : (k j e f : ℕ) (p : Bytes) → k < Z .m → j ≤ 4294967295 → i .records k ≡ good e → IntactFor j f p (part b (entryAt Z k) entrySize)
+      → ¬ (j ≡ index (firstIn Z c b) k) → verdictAt (Z .m) i k ≡ cond (eqb (suc k) len) 4 3
   -- 5: the first unused slot, if its entry is not all spaces; 0: every other unused slot
-  pub unfinished : (k : ℕ) → k < m → k ≡ len → ¬ (part b (entryAt m k) 240 ≡ freshEntry) → verdictAt m i k ≡ 5
-  pub unused-fresh : (k : ℕ) → k < m → k ≡ len → part b (entryAt m k) 240 ≡ freshEntry → verdictAt m i k ≡ 0
-  pub unused-behind : (k : ℕ) → k < m → len < k → verdictAt m i k ≡ 0
+  pub unfinished : (k : ℕ) → k < Z .m → k ≡ len → ¬ (part b (entryAt Z k) entrySize ≡ freshEntry) → verdictAt (Z .m) i k ≡ 5
+  pub unused-fresh : (k : ℕ) → k < Z .m → k ≡ len → part b (entryAt Z k) entrySize ≡ freshEntry → verdictAt (Z .m) i k ≡ 0
+  pub unused-behind : (k : ℕ) → k < Z .m → len < k → verdictAt (Z .m) i k ≡ 0
   -- a slot, by its number, has a payload exactly with verdict 1 or 2: its entry's
-  pub present : (s : ℕ) → hasPayload m i s ≡ leb 1 s && leb s m && (eqb (verdictAt m i (s - 1)) 1 || eqb (verdictAt m i (s - 1)) 2)
-  pub payload : (k e : ℕ) (p : Bytes) → hasPayload m i (suc k) ≡ true → i .entries k ≡ intact e p → payloadOf c n m b (suc k) ≡ p
+  pub present : (s : ℕ) → hasPayload (Z .m) i s ≡ leb 1 s && leb s (Z .m) && (eqb (verdictAt (Z .m) i (s - 1)) 1 || eqb (verdictAt (Z .m) i (s - 1)) 2)
+  pub payload : (k e : ℕ) (p : Bytes) → hasPayload (Z .m) i (suc k) ≡ true → i .entries k ≡ intact e p → payloadOf Z c b (suc k) ≡ p
 
 -- every image that is not refused
 pub record ReadingClaim : Type 0 where
-  pub reads : (c n m : ℕ) (b : Bytes) → readRefusal c n m b ≡ 0 → Reading c n m b (decodeImage c n m b) (logLength m (decodeImage c n m b))
+  pub reads : (Z : Shape) (c : ℕ) (b : Bytes) → readRefusal Z c b ≡ 0 → Reading Z c b (decodeImage Z c b) (logLength (Z .m) (decodeImage Z c b))

@@ -6,6 +6,7 @@ use lib.Dec.{eqb, leb, ltb}
 use lib.ListN.{length}
 use Rattle.search.specs.Search.{lowest, all}
 use Rattle.slices.specs.Parts.{Bytes}
+use Rattle.record.specs.declared.Shape.{Shape}
 use Rattle.record.specs.Meaning.{Header, proper, improper, Record, good, blank, bad, Entry, intact, broken}
 use Rattle.image.specs.Refusal.{refuse, _else_}
 use Rattle.image.specs.Image.{Image, imageSize, decodeImage}
@@ -87,13 +88,13 @@ unfoldable pub isSlots : ℕ → Bool
 isSlots m = leb 1 m && leb m 64
 
 -- what the caller names is out of range, or the buffer has not so many bytes
-unfoldable pub callRefusal : ℕ → ℕ → ℕ → ℕ → ℕ
-callRefusal c n m size =
-    refuse 1 (not (isSlots m)) else refuse 2 (not (isSize n && isReplica n c)) else refuse 3 (not (eqb size (imageSize m)))
+unfoldable pub callRefusal : Shape → ℕ → ℕ → ℕ
+callRefusal Z c size =
+    refuse 1 (not (isSlots (Z .m))) else refuse 2 (not (isSize (Z .n) && isReplica (Z .n) c)) else refuse 3 (not (eqb size (imageSize Z c)))
 
--- the refusal of reading the image of replica c, of n, with m slots
-unfoldable pub readRefusal : ℕ → ℕ → ℕ → Bytes → ℕ
-readRefusal c n m b = callRefusal c n m (length b) else imageRefusal m (decodeImage c n m b)
+-- the refusal of reading the image of replica c
+unfoldable pub readRefusal : Shape → ℕ → Bytes → ℕ
+readRefusal Z c b = callRefusal Z c (length b) else imageRefusal (Z .m) (decodeImage Z c b)
 
 -- what planner and recovery see of a replica
 pub record View : Type 0 where

@@ -6,11 +6,12 @@ ghost use lib.ListN.{length, take, drop, replicate};
 ghost use Rattle.slices.specs.Parts.{part};
 ghost use Rattle.slices.specs.Same.{same};
 ghost use Rattle.record.specs.Layout.{recordSize, entrySize, headerBytes, blankRecord};
-ghost use Rattle.record.specs.Meaning.{readRecord, readEntry, isGood, isIntact};
-ghost use Rattle.record.specs.Judged.{recordAnswer, entryAnswer};
+ghost use Rattle.record.specs.Meaning.{readHeader, readRecord, readEntry, isGood, isIntact};
+ghost use Rattle.record.specs.Judged.{headerAnswer, recordAnswer, entryAnswer};
 ghost use Rattle.record.specs.Seal.{sealOf, isFront};
 use locate::BLANK_SIZE;
 use locate::ENTRY_SIZE;
+use locate::FIRST_INDEX;
 use locate::FRONT_SIZE;
 use locate::HEADER_SIZE;
 use locate::INDEX_AT;
@@ -19,7 +20,9 @@ use locate::NUMBER_WIDTH;
 use locate::PAYLOAD_AT;
 use locate::SEAL_SIZE;
 use record::EntryState;
+use record::HeaderState;
 use record::RecordState;
+use record::Shape;
 
 // Epochs are 1 to this.
 const LAST_EPOCH: u64 = 4294967295;
@@ -37,17 +40,27 @@ fn is_sealed(s: &[u8], at: usize) -> bool
     spell::holds_number(&s[at..e], sum as u64)
 }
 
-// Whether the header is the writer's for this replica, n and m, byte for byte.
-pub fn is_header(s: &[u8], replica: usize, n: usize, m: usize) -> bool
-    ensures { λ r. ⌜ r ≡ same (now (s .entry)) (headerBytes replica n m) ⌝ }
+// Whether the header is the writer's for this shape and replica, byte for byte.
+fn is_header(s: &[u8], shape: Shape, replica: usize) -> bool
+    ensures { λ r. ⌜ r ≡ same (now (s .entry)) (headerBytes shape replica) ⌝ }
 {
     let mut w = [0u8; HEADER_SIZE];
-    write::write_header(&mut w, replica, n, m);
+    write::write_header(&mut w, shape, replica);
     copy::same_bytes(s, &w)
 }
 
+// Judges the header of a replica: the writer's, with the index of the first slot, or not.
+pub fn judge_header(s: &[u8], shape: Shape, replica: usize) -> HeaderState
+    ensures { λ r. ⌜ r ≡ headerAnswer (readHeader shape replica (now (s .entry))) ⌝ }
+{
+    if is_header(s, shape, replica) {
+        return HeaderState::Proper(FIRST_INDEX);
+    }
+    HeaderState::Improper
+}
+
 // Whether the front is the writer's for this index and epoch.
-fn is_front(s: &[u8], index: u32, epoch: u64) -> bool
+fn is_front(s: &[u8], index: u64, epoch: u64) -> bool
     requires { ⌜ 22 ≤ length (now s) ⌝ }
     ensures { λ r. ⌜ r ≡ isFront index epoch (now (s .entry)) ⌝ }
 {
@@ -60,11 +73,11 @@ fn is_front(s: &[u8], index: u32, epoch: u64) -> bool
     if !spell::holds_number(&s[0..INDEX_AT], epoch) {
         return false;
     }
-    spell::holds_number(&s[INDEX_AT..FRONT_SIZE], index as u64)
+    spell::holds_number(&s[INDEX_AT..FRONT_SIZE], index)
 }
 
 // Whether the record is the writer's for this index and epoch.
-fn is_good(s: &[u8], index: u32, epoch: u64) -> bool
+fn is_good(s: &[u8], index: u64, epoch: u64) -> bool
     requires { ⌜ length (now s) ≡ recordSize ⌝ }
     ensures { λ r. ⌜ r ≡ isGood index epoch (now (s .entry)) ⌝ }
 {
@@ -86,7 +99,7 @@ fn is_blank(s: &[u8]) -> bool
 }
 
 // Judges the record of an index: good with its epoch, blank, or bad.
-pub fn judge_record(s: &[u8], index: u32) -> RecordState
+pub fn judge_record(s: &[u8], index: u64) -> RecordState
     requires { ⌜ length (now s) ≡ recordSize ⌝ }
     ensures { λ r. ⌜ r ≡ recordAnswer (readRecord index (now (s .entry))) ⌝ }
 {
@@ -101,7 +114,7 @@ pub fn judge_record(s: &[u8], index: u32) -> RecordState
 }
 
 // Whether the entry is the writer's for this index, epoch and the payload of that length that stands in it.
-fn is_intact(s: &[u8], index: u32, epoch: u64, size: usize) -> bool
+fn is_intact(s: &[u8], index: u64, epoch: u64, size: usize) -> bool
     requires { ⌜ length (now s) ≡ entrySize ⌝ }
     ensures { λ r. ⌜ r ≡ isIntact index epoch (part (now (s .entry)) 26 size) (now (s .entry)) ⌝ }
 {
@@ -130,7 +143,7 @@ fn is_closed(s: &[u8], at: usize) -> bool
 }
 
 // Judges the entry of an index, given the part of the image that begins at its own start.
-pub fn judge_entry(s: &[u8], index: u32) -> EntryState
+pub fn judge_entry(s: &[u8], index: u64) -> EntryState
     requires { ⌜ length (now s) ≡ entrySize ⌝ }
     ensures { λ r. ⌜ r ≡ entryAnswer (readEntry index (now (s .entry))) ⌝ }
 {

@@ -1,9 +1,11 @@
 // Where things stand on a card: sizes and offsets in bytes, said once for all code. Replicas and slots count from 0.
 ghost use Prim.Native.Nat.{_+_, _<_, _≤_};
 ghost use mathlib.Core.Path.{_≡_};
-ghost use Rattle.image.specs.Image.{imageSize, recordAt, entryAt};
+ghost use Rattle.record.specs.Layout.{headerSize};
+ghost use Rattle.image.specs.Image.{index, imageSize, recordAt, entryAt};
 ghost use Rattle.image.specs.Cluster.{imageAt};
 ghost use Rattle.image.specs.Fits.{ImageFits};
+use record::Shape;
 
 // Document 01's head, line and cell.
 pub const HEADER_SIZE: usize = 28;
@@ -47,50 +49,68 @@ pub const PAYLOAD_AT: usize = 26;
 // A payload has at most so many bytes.
 pub const MAX_PAYLOAD: usize = 200;
 
-// How many bytes an image of m slots has.
-pub fn image_size(m: usize) -> usize
-    requires { ⌜ m ≤ 64 ⌝ }
-    ensures { λ r. ⌜ r ≡ imageSize m ⌝ }
+// The first slot of a log has this index.
+pub const FIRST_INDEX: u32 = 1;
+
+// How many bytes the header of an image of this shape has.
+pub fn header_size(shape: Shape) -> usize
+    ensures { λ r. ⌜ r ≡ headerSize shape ⌝ }
 {
-    HEADER_SIZE + (RECORD_SIZE + ENTRY_SIZE) * m
+    HEADER_SIZE
+}
+
+// How many bytes the image of replica `replica` (from 1) has.
+pub fn image_size(shape: Shape, replica: usize) -> usize
+    requires { ⌜ shape .m ≤ 64 ⌝ }
+    ensures { λ r. ⌜ r ≡ imageSize shape replica ⌝ }
+{
+    header_size(shape) + (RECORD_SIZE + ENTRY_SIZE) * shape.m
 }
 
 // Where the record of slot k begins in its image.
-pub fn record_at(k: usize) -> usize
+pub fn record_at(shape: Shape, k: usize) -> usize
     requires { ⌜ k ≤ 64 ⌝ }
-    ensures { λ r. ⌜ r ≡ recordAt k ⌝ }
+    ensures { λ r. ⌜ r ≡ recordAt shape k ⌝ }
 {
-    HEADER_SIZE + RECORD_SIZE * k
+    header_size(shape) + RECORD_SIZE * k
 }
 
-// Where the entry of slot k begins in its image of m slots.
-pub fn entry_at(m: usize, k: usize) -> usize
-    requires { ⌜ (m ≤ 64) × (k ≤ 64) ⌝ }
-    ensures { λ r. ⌜ r ≡ entryAt m k ⌝ }
+// Where the entry of slot k begins in its image.
+pub fn entry_at(shape: Shape, k: usize) -> usize
+    requires { ⌜ (shape .m ≤ 64) × (k ≤ 64) ⌝ }
+    ensures { λ r. ⌜ r ≡ entryAt shape k ⌝ }
 {
-    HEADER_SIZE + RECORD_SIZE * m + ENTRY_SIZE * k
+    header_size(shape) + RECORD_SIZE * shape.m + ENTRY_SIZE * k
 }
 
 // Where the image of replica c begins in its cluster; of n, where the cluster ends.
-pub fn image_at(m: usize, c: usize) -> usize
-    requires { ⌜ (m ≤ 64) × (imageAt m c ≤ 18446744073709551615) ⌝ }
-    ensures { λ r. ⌜ r ≡ imageAt m c ⌝ }
+pub fn image_at(shape: Shape, c: usize) -> usize
+    requires { ⌜ (shape .m ≤ 64) × (imageAt shape c ≤ 18446744073709551615) ⌝ }
+    ensures { λ r. ⌜ r ≡ imageAt shape c ⌝ }
 {
-    image_size(m) * c
+    image_size(shape, 1) * c
 }
 
 // Where the record of slot k of replica c begins in the cluster.
-pub fn record_in(m: usize, c: usize, k: usize) -> usize
-    requires { ⌜ (m ≤ 64) × (k < m) × ImageFits m 18446744073709551615 c ⌝ }
-    ensures { λ r. ⌜ r ≡ imageAt m c + recordAt k ⌝ }
+pub fn record_in(shape: Shape, c: usize, k: usize) -> usize
+    requires { ⌜ (shape .m ≤ 64) × (k < shape .m) × ImageFits shape 18446744073709551615 c ⌝ }
+    ensures { λ r. ⌜ r ≡ imageAt shape c + recordAt shape k ⌝ }
 {
-    image_at(m, c) + record_at(k)
+    image_at(shape, c) + record_at(shape, k)
 }
 
 // Where the entry of slot k of replica c begins in the cluster.
-pub fn entry_in(m: usize, c: usize, k: usize) -> usize
-    requires { ⌜ (m ≤ 64) × (k < m) × ImageFits m 18446744073709551615 c ⌝ }
-    ensures { λ r. ⌜ r ≡ imageAt m c + entryAt m k ⌝ }
+pub fn entry_in(shape: Shape, c: usize, k: usize) -> usize
+    requires { ⌜ (shape .m ≤ 64) × (k < shape .m) × ImageFits shape 18446744073709551615 c ⌝ }
+    ensures { λ r. ⌜ r ≡ imageAt shape c + entryAt shape k ⌝ }
 {
-    image_at(m, c) + entry_at(m, k)
+    image_at(shape, c) + entry_at(shape, k)
+}
+
+// The index of slot k, of a log whose first slot has index `first`.
+pub fn index_of(first: u32, k: usize) -> u64
+    requires { ⌜ k ≤ 64 ⌝ }
+    ensures { λ r. ⌜ r ≡ index first k ⌝ }
+{
+    first as u64 + k as u64
 }

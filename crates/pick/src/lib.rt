@@ -16,8 +16,8 @@ use image::condition;
 use planner::Plan;
 use planner::Survey;
 use planner::action;
+use record::Shape;
 use recovery::NextStore;
-use recovery::Shape;
 use seek::entry_differs;
 use seek::first_differing;
 use seek::first_fetched;
@@ -65,17 +65,16 @@ fn leader_store(survey: Survey, plan: Plan, leader: usize) -> NextStore
 }
 
 // The first missing slot of a follower c, entry before record; nothing if its log is as long as the leader's.
-fn missing_store(cluster: &[u8], survey: Survey, shape: Shape, c: usize) -> NextStore
-    requires { ⌜ Answering shape survey (length (now cluster)) c ⌝ }
-    ensures { λ r. ⌜ ((S : Setting) → Sees S (now (cluster .entry)) shape survey
+fn missing_store(cluster: &[u8], survey: Survey, shape: Shape, leader: usize, c: usize) -> NextStore
+    requires { ⌜ Answering shape leader survey (length (now cluster)) c ⌝ }
+    ensures { λ r. ⌜ ((S : Setting) → Sees S (now (cluster .entry)) shape leader survey
         → storeOf r ≡ missingStore S (viewsIn S (now (cluster .entry))) (unlike S (clusterIn S (now (cluster .entry))) c) c) ⌝ }
 {
-    let leader = shape.leader;
     let k = survey.lengths[c];
     if survey.lengths[leader] <= k {
         return NextStore::Nothing;
     }
-    if !entry_differs(cluster, shape, c, k) {
+    if !entry_differs(cluster, shape, leader, c, k) {
         let epoch = survey.epochs[leader * MAX_SLOTS + k];
         return NextStore::Record { c, k, epoch };
     }
@@ -88,12 +87,17 @@ fn missing_store(cluster: &[u8], survey: Survey, shape: Shape, c: usize) -> Next
 
 // The first store of a follower c: records blanked from its last slot down to the lowest that differs; faulty entries below it; lost
 // records below it; then the first missing slot.
-fn follower_store(cluster: &[u8], survey: Survey, shape: Shape, c: usize) -> NextStore
-    requires { ⌜ Answering shape survey (length (now cluster)) c ⌝ }
-    ensures { λ r. ⌜ ((S : Setting) → Sees S (now (cluster .entry)) shape survey
+fn follower_store(
+    cluster: &[u8],
+    survey: Survey,
+    shape: Shape,
+    leader: usize,
+    c: usize,
+) -> NextStore
+    requires { ⌜ Answering shape leader survey (length (now cluster)) c ⌝ }
+    ensures { λ r. ⌜ ((S : Setting) → Sees S (now (cluster .entry)) shape leader survey
         → storeOf r ≡ followerStore S (viewsIn S (now (cluster .entry))) (unlike S (clusterIn S (now (cluster .entry))) c) c) ⌝ }
 {
-    let leader = shape.leader;
     let limit = survey.lengths[leader];
     let length = survey.lengths[c];
     let kept = first_differing(&survey.epochs, leader, limit, c, length);
@@ -116,22 +120,21 @@ fn follower_store(cluster: &[u8], survey: Survey, shape: Shape, c: usize) -> Nex
             epoch: survey.epochs[c * MAX_SLOTS + lost],
         };
     }
-    missing_store(cluster, survey, shape, c)
+    missing_store(cluster, survey, shape, leader, c)
 }
 
 // What replica c has still to get: nothing if it is the leader or does not answer.
-fn due_store(cluster: &[u8], survey: Survey, shape: Shape, c: usize) -> NextStore
-    requires { ⌜ InRange shape survey (length (now cluster)) × (c < shape .n) ⌝ }
-    ensures { λ r. ⌜ ((S : Setting) → Sees S (now (cluster .entry)) shape survey → storeOf r ≡ due S (clusterIn S (now (cluster .entry))) c) ⌝ }
+fn due_store(cluster: &[u8], survey: Survey, shape: Shape, leader: usize, c: usize) -> NextStore
+    requires { ⌜ InRange shape leader survey (length (now cluster)) × (c < shape .n) ⌝ }
+    ensures { λ r. ⌜ ((S : Setting) → Sees S (now (cluster .entry)) shape leader survey → storeOf r ≡ due S (clusterIn S (now (cluster .entry))) c) ⌝ }
 {
-    let leader = shape.leader;
     if c == leader {
         return NextStore::Nothing;
     }
     if !contains(survey.readable, c) {
         return NextStore::Nothing;
     }
-    follower_store(cluster, survey, shape, c)
+    follower_store(cluster, survey, shape, leader, c)
 }
 
 // Whether there is a store.
@@ -145,15 +148,21 @@ pub fn is_outstanding(store: NextStore) -> bool
 }
 
 // The first store of the followers, by number, where none below `from` has one.
-pub fn followers_store(cluster: &[u8], survey: Survey, shape: Shape, from: usize) -> NextStore
-    requires { ⌜ InRange shape survey (length (now cluster)) × (from ≤ shape .n) ⌝ }
-    ensures { λ r. ⌜ ((S : Setting) → Sees S (now (cluster .entry)) shape survey
+pub fn followers_store(
+    cluster: &[u8],
+    survey: Survey,
+    shape: Shape,
+    leader: usize,
+    from: usize,
+) -> NextStore
+    requires { ⌜ InRange shape leader survey (length (now cluster)) × (from ≤ shape .n) ⌝ }
+    ensures { λ r. ⌜ ((S : Setting) → Sees S (now (cluster .entry)) shape leader survey
         → ((j : ℕ) → j < from → isSome (due S (clusterIn S (now (cluster .entry))) j) ≡ false)
         → storeOf r ≡ followersStore S (clusterIn S (now (cluster .entry)))) ⌝ }
 {
     let mut c = from;
     while c < shape.n {
-        let store = due_store(cluster, survey, shape, c);
+        let store = due_store(cluster, survey, shape, leader, c);
         if is_outstanding(store) {
             return store;
         }
@@ -163,14 +172,20 @@ pub fn followers_store(cluster: &[u8], survey: Survey, shape: Shape, from: usize
 }
 
 // The first store of a ready plan: the leader's before the followers'.
-pub fn first_store(cluster: &[u8], survey: Survey, plan: Plan, shape: Shape) -> NextStore
-    requires { ⌜ InRange shape survey (length (now cluster)) × (plan .end ≤ 64) ⌝ }
-    ensures { λ r. ⌜ ((S : Setting) → Sees S (now (cluster .entry)) shape survey → PlanIs S (viewsIn S (now (cluster .entry))) plan
+pub fn first_store(
+    cluster: &[u8],
+    survey: Survey,
+    plan: Plan,
+    shape: Shape,
+    leader: usize,
+) -> NextStore
+    requires { ⌜ InRange shape leader survey (length (now cluster)) × (plan .end ≤ 64) ⌝ }
+    ensures { λ r. ⌜ ((S : Setting) → Sees S (now (cluster .entry)) shape leader survey → PlanIs S (viewsIn S (now (cluster .entry))) plan
         → storeOf r ≡ (leaderStore S (viewsIn S (now (cluster .entry))) or followersStore S (clusterIn S (now (cluster .entry))))) ⌝ }
 {
-    let store = leader_store(survey, plan, shape.leader);
+    let store = leader_store(survey, plan, leader);
     if is_outstanding(store) {
         return store;
     }
-    followers_store(cluster, survey, shape, 0)
+    followers_store(cluster, survey, shape, leader, 0)
 }

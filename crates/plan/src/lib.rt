@@ -11,6 +11,7 @@ use copy::copy_bytes;
 use decide::open_cluster;
 use planner::PlanAnswer;
 use planner::ReplicaRow;
+use record::Shape;
 use tabulate::PlanOutcome;
 use tabulate::fill_rows;
 use tabulate::no_rows;
@@ -27,16 +28,16 @@ pub fn plan_answer(end: usize, waiting: usize) -> PlanAnswer
 }
 
 // Refusal 13, after all else that applies: the plan has not m bytes, or the table not n rows.
-fn lent_refusal(refusal: u8, n: usize, m: usize, bytes: usize, rows: usize) -> u8
-    ensures { λ r. ⌜ r ≡ lentRefusal refusal n m bytes rows ⌝ }
+fn lent_refusal(refusal: u8, shape: Shape, bytes: usize, rows: usize) -> u8
+    ensures { λ r. ⌜ r ≡ lentRefusal refusal shape bytes rows ⌝ }
 {
     if refusal != 0 {
         return refusal;
     }
-    if bytes != m {
+    if bytes != shape.m {
         return 13;
     }
-    if rows != n {
+    if rows != shape.n {
         return 13;
     }
     0
@@ -59,23 +60,24 @@ fn refused(refusal: u8) -> PlanOutcome
 pub fn plan_bytes(
     plan: &mut [u8],
     cluster: &[u8],
-    n: usize,
-    m: usize,
+    shape: Shape,
     leading: usize,
     present: u32,
     rows: usize,
 ) -> PlanOutcome
-    ensures { λ r. ⌜ Outcome (planRefusal n m leading present (now (cluster .entry)) (length (now (plan .entry))) rows)
-        (settingOf n m leading present) (viewsIn (settingOf n m leading present) (now (cluster .entry))) (r .answer) (r .count) (r .rows)
-        × (now (plan .exit) ≡ planLeft n m leading present (now (cluster .entry)) (now (plan .entry)) rows) ⌝ }
+    ensures { λ r. ⌜ Outcome (planRefusal shape leading present (now (cluster .entry)) (length (now (plan .entry))) rows)
+        (settingOf shape leading present) (viewsIn (settingOf shape leading present) (now (cluster .entry))) (r .answer) (r .count) (r .rows)
+        × (now (plan .exit) ≡ planLeft shape leading present (now (cluster .entry)) (now (plan .entry)) rows) ⌝ }
 {
-    let opening = open_cluster(cluster, n, m, leading, present);
-    let refusal = lent_refusal(opening.refusal, n, m, plan.len(), rows);
+    let opening = open_cluster(cluster, shape, leading, present);
+    let refusal = lent_refusal(opening.refusal, shape, plan.len(), rows);
     if refusal != 0 {
         return refused(refusal);
     }
     let found = opening.plan;
     let bytes = found.bytes;
+    let n = shape.n;
+    let m = shape.m;
     copy_bytes(plan, &bytes[0..m]);
     let survey = opening.survey;
     let rows = survey_rows(survey.readable, &survey.lengths, &survey.epochs, n);
@@ -104,19 +106,18 @@ fn outcome_answer(found: PlanOutcome) -> PlanAnswer
 // The planner's call: the plan of m bytes and the table of n rows are filled, unless the call is refused.
 pub fn plan_cluster(
     cluster: &[u8],
-    n: usize,
-    m: usize,
+    shape: Shape,
     leading: usize,
     present: u32,
     plan: &mut [u8],
     rows: &mut [ReplicaRow],
 ) -> PlanAnswer
     ensures { λ r. ⌜ (planNumbers r
-        ≡ planCallNumbers n m leading present (now (cluster .entry)) (length (now (plan .entry))) (length (now (rows .entry))))
-        × (now (plan .exit) ≡ planLeft n m leading present (now (cluster .entry)) (now (plan .entry)) (length (now (rows .entry))))
-        × (now (rows .exit) ≡ rowsLeft n m leading present (now (cluster .entry)) (length (now (plan .entry))) (now (rows .entry))) ⌝ }
+        ≡ planCallNumbers shape leading present (now (cluster .entry)) (length (now (plan .entry))) (length (now (rows .entry))))
+        × (now (plan .exit) ≡ planLeft shape leading present (now (cluster .entry)) (now (plan .entry)) (length (now (rows .entry))))
+        × (now (rows .exit) ≡ rowsLeft shape leading present (now (cluster .entry)) (length (now (plan .entry))) (now (rows .entry))) ⌝ }
 {
-    let found = plan_bytes(plan, cluster, n, m, leading, present, rows.len());
+    let found = plan_bytes(plan, cluster, shape, leading, present, rows.len());
     fill_rows(rows, found, outcome_count(found));
     outcome_answer(found)
 }

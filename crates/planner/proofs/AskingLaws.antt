@@ -9,24 +9,24 @@ use borrow.Author.Tests.{eq-eqb}
 use Rattle.search.specs.Search.{oneIf}
 use Rattle.slices.specs.Parts.{Bytes}
 use Rattle.slices.proofs.SameLaws.{and-off}
+use Rattle.record.specs.declared.Shape.{Shape}
 use Rattle.image.specs.View.{Condition, Unused, Whole, RecordLost, Faulty, Lost, View, isSize, isSlots, isLost, viewOf, callRefusal, readRefusal}
 use Rattle.image.specs.Read.{isWhole}
 use Rattle.image.specs.Cluster.{imageAt, imagePart, decode}
 use Rattle.image.proofs.RefusalLaws.{else-next}
 use Rattle.image.proofs.CallLaws.{is-replica, call-none}
-use Rattle.image.proofs.DecodeLaws.{size-is}
 use Rattle.image.proofs.ClusterLaws.{length-image}
 use Rattle.planner.specs.Setting.{Setting, has, settingOf, viewsOf}
 use Rattle.planner.specs.Rules.{isFaulty, isUsed, answers, agrees, have, haveFaulty, dontHave}
 use Rattle.planner.specs.Plan.{viewsIn}
 
-pub own-refusal : (n m leader present : ℕ) (b : Bytes) (c : ℕ) → isSize n ≡ true → isSlots m ≡ true → length b ≡ imageAt m n → c < n
-    → viewsIn (settingOf n m leader present) b c .readable ≡ has present c && eqb (readRefusal (suc c) n m (imagePart m b c)) 0
+pub own-refusal : (Z : Shape) (leader present : ℕ) (b : Bytes) (c : ℕ) → isSize (Z .n) ≡ true → isSlots (Z .m) ≡ true → length b ≡ imageAt Z (Z .n) → c < Z .n
+    → viewsIn (settingOf Z leader present) b c .readable ≡ has present c && eqb (readRefusal Z (suc c) (imagePart Z b c)) 0
 unfolding viewsIn viewsOf settingOf viewOf decode readRefusal
-own-refusal n m leader present b c sized slots size h =
-    let l = length-image n m b size c h in
-    let z : callRefusal (suc c) n m (length (imagePart m b c)) ≡ 0
-    = sym (call-none (suc c) n m (length (imagePart m b c)) slots sized (is-replica n (suc c) (omega arith) (omega arith)) (omega (arith, l, size-is m))) in
+own-refusal Z leader present b c sized slots size h =
+    let l = length-image Z b size c h in
+    let z : callRefusal Z (suc c) (length (imagePart Z b c)) ≡ 0
+    = sym (call-none Z (suc c) (length (imagePart Z b c)) slots sized (is-replica (Z .n) (suc c) (omega arith) (omega arith)) l) in
     ap (λ (r : ℕ). has present c && eqb r 0) (sym (else-next _ z))
 
 -- the leader answers nothing, nor does one that is away or unreadable

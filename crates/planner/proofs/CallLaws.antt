@@ -9,6 +9,7 @@ use lib.ListN.{length, getD}
 use borrow.Author.Tests.{leb-true, not-false}
 use Rattle.slices.specs.Parts.{Bytes}
 use Rattle.slices.proofs.SameLaws.{and-left, and-right}
+use Rattle.record.specs.declared.Shape.{Shape}
 use Rattle.image.specs.Refusal.{refuse, _else_}
 use Rattle.image.specs.View.{View, viewOf, isReplica}
 use Rattle.image.specs.Cluster.{decode}
@@ -49,42 +50,42 @@ module _ (readable n leader : ℕ) where
 
 -- ---- all of them
 
-module _ (n m leader present : ℕ) (b : Bytes) where
-  cluster-is : clusterRefusal n m leader present b
-      ≡ (shapeRefusal n m present (length b) else refuse 12 (not (isReplica n leader && viewsIn (settingOf n m leader present) b (pred leader) .readable)))
+module _ (Z : Shape) (leader present : ℕ) (b : Bytes) where
+  cluster-is : clusterRefusal Z leader present b
+      ≡ (shapeRefusal Z present (length b) else refuse 12 (not (isReplica (Z .n) leader && viewsIn (settingOf Z leader present) b (pred leader) .readable)))
   unfolding clusterRefusal
   cluster-is = refl
 
-  pub cluster-shape : {r : ℕ} → r ≡ shapeRefusal n m present (length b) → (r ≡ 0 → ⊥) → r ≡ clusterRefusal n m leader present b
+  pub cluster-shape : {r : ℕ} → r ≡ shapeRefusal Z present (length b) → (r ≡ 0 → ⊥) → r ≡ clusterRefusal Z leader present b
   cluster-shape e z = e ∙ sym (else-first _ _ (λ q. z (e ∙ q))) ∙ sym cluster-is
 
-  module _ (z : shapeRefusal n m present (length b) ≡ 0) (readable : ℕ) (lengths conditions epochs : List ℕ)
-      (s : Surveyed n m (viewsIn (settingOf n m leader present) b) readable lengths conditions epochs) where
-    leader-same : (isReplica n leader && has readable (pred leader)) ≡ (isReplica n leader && viewsIn (settingOf n m leader present) b (pred leader) .readable)
-    leader-same = go (isReplica n leader) refl
+  module _ (z : shapeRefusal Z present (length b) ≡ 0) (readable : ℕ) (lengths conditions epochs : List ℕ)
+      (s : Surveyed (Z .n) (Z .m) (viewsIn (settingOf Z leader present) b) readable lengths conditions epochs) where
+    leader-same : (isReplica (Z .n) leader && has readable (pred leader)) ≡ (isReplica (Z .n) leader && viewsIn (settingOf Z leader present) b (pred leader) .readable)
+    leader-same = go (isReplica (Z .n) leader) refl
       where
-        go : (t : Bool) → isReplica n leader ≡ t → (t && has readable (pred leader)) ≡ (t && viewsIn (settingOf n m leader present) b (pred leader) .readable)
-        go true e = s .readable-is (pred leader) (replica-below n leader e)
+        go : (t : Bool) → isReplica (Z .n) leader ≡ t → (t && has readable (pred leader)) ≡ (t && viewsIn (settingOf Z leader present) b (pred leader) .readable)
+        go true e = s .readable-is (pred leader) (replica-below (Z .n) leader e)
         go false e = refl
 
-    pub cluster-leader : {r : ℕ} → r ≡ refuse 12 (not (isReplica n leader && has readable (pred leader))) → r ≡ clusterRefusal n m leader present b
+    pub cluster-leader : {r : ℕ} → r ≡ refuse 12 (not (isReplica (Z .n) leader && has readable (pred leader))) → r ≡ clusterRefusal Z leader present b
     cluster-leader e = e ∙ ap (λ (t : Bool). refuse 12 (not t)) leader-same ∙ sym (else-next _ z) ∙ sym cluster-is
 
-    pub cluster-survey : refuse 12 (not (isReplica n leader && has readable (pred leader))) ≡ 0
-        → SurveyOf (settingOf n m leader present) (viewsIn (settingOf n m leader present) b) n (leader - 1) readable lengths conditions epochs
+    pub cluster-survey : refuse 12 (not (isReplica (Z .n) leader && has readable (pred leader))) ≡ 0
+        → SurveyOf (settingOf Z leader present) (viewsIn (settingOf Z leader present) b) (Z .n) (leader - 1) readable lengths conditions epochs
     unfolding settingOf viewsIn viewsOf viewOf
     cluster-survey e = record {
       n-is = refl;
-      leader-is = sym (pred-is readable n leader);
-      few = size-high n (shaped-size n m present (length b) z);
-      leader-below = rw (pred-is readable n leader) (replica-below n leader (and-left (isReplica n leader) (has readable (pred leader)) on));
-      slots-fit = slots-high m (shaped-slots n m present (length b) z);
-      leader-reads = rw (pred-is readable n leader) (sym (s .readable-is (pred leader) (replica-below n leader (and-left (isReplica n leader) (has readable (pred leader)) on))) ∙ and-right (isReplica n leader) (has readable (pred leader)) on);
-      logs-fit = λ c. length-le m (decode n m b c);
+      leader-is = sym (pred-is readable (Z .n) leader);
+      few = size-high (Z .n) (shaped-size Z present (length b) z);
+      leader-below = rw (pred-is readable (Z .n) leader) (replica-below (Z .n) leader (and-left (isReplica (Z .n) leader) (has readable (pred leader)) on));
+      slots-fit = slots-high (Z .m) (shaped-slots Z present (length b) z);
+      leader-reads = rw (pred-is readable (Z .n) leader) (sym (s .readable-is (pred leader) (replica-below (Z .n) leader (and-left (isReplica (Z .n) leader) (has readable (pred leader)) on))) ∙ and-right (isReplica (Z .n) leader) (has readable (pred leader)) on);
+      logs-fit = λ c. length-le (Z .m) (decode Z b c);
       surveyed = s;
     }
       where
-        on : (isReplica n leader && has readable (pred leader)) ≡ true
+        on : (isReplica (Z .n) leader && has readable (pred leader)) ≡ true
         on = not-false _ (refuse-zero 11 _ e)
 
 -- what the plan of a survey asks
@@ -94,18 +95,18 @@ survey-asks {S} {W} {n} {leader} o =
     (o .few, o .leader-below, omega (arith, o .surveyed .length-is leader (o .leader-below) (o .leader-reads), o .logs-fit leader, o .slots-fit))
 
 -- the leader is a replica of the cluster, and is read
-pub leader-accepted : (n m leader present : ℕ) (b : Bytes) → clusterRefusal n m leader present b ≡ 0
-    → (pred leader < n) × (viewsIn (settingOf n m leader present) b (pred leader) .readable ≡ true)
-leader-accepted n m leader present b e =
-    let z = not-false _ (refuse-zero 11 _ (else-zero-r _ _ (sym (cluster-is n m leader present b) ∙ e))) in
-    (replica-below n leader (and-left (isReplica n leader) _ z), and-right (isReplica n leader) _ z)
+pub leader-accepted : (Z : Shape) (leader present : ℕ) (b : Bytes) → clusterRefusal Z leader present b ≡ 0
+    → (pred leader < Z .n) × (viewsIn (settingOf Z leader present) b (pred leader) .readable ≡ true)
+leader-accepted Z leader present b e =
+    let z = not-false _ (refuse-zero 11 _ (else-zero-r _ _ (sym (cluster-is Z leader present b) ∙ e))) in
+    (replica-below (Z .n) leader (and-left (isReplica (Z .n) leader) _ z), and-right (isReplica (Z .n) leader) _ z)
 
 -- its number counts from 1
-pub leader-first : (n m leader present : ℕ) (b : Bytes) → clusterRefusal n m leader present b ≡ 0 → 1 ≤ leader
+pub leader-first : (Z : Shape) (leader present : ℕ) (b : Bytes) → clusterRefusal Z leader present b ≡ 0 → 1 ≤ leader
 unfolding isReplica
-leader-first n m leader present b e =
-    let z = else-zero-r _ _ (sym (cluster-is n m leader present b) ∙ e) in
-    leb-true 1 leader (and-left (leb 1 leader) (leb leader n) (and-left (isReplica n leader) (viewsIn (settingOf n m leader present) b (pred leader) .readable) (not-false _ (refuse-zero 11 _ z))))
+leader-first Z leader present b e =
+    let z = else-zero-r _ _ (sym (cluster-is Z leader present b) ∙ e) in
+    leb-true 1 leader (and-left (leb 1 leader) (leb leader (Z .n)) (and-left (isReplica (Z .n) leader) (viewsIn (settingOf Z leader present) b (pred leader) .readable) (not-false _ (refuse-zero 11 _ z))))
 
-pub cluster-shaped : (n m leader present : ℕ) (b : Bytes) → clusterRefusal n m leader present b ≡ 0 → shapeRefusal n m present (length b) ≡ 0
-cluster-shaped n m leader present b e = else-zero-l _ _ (sym (cluster-is n m leader present b) ∙ e)
+pub cluster-shaped : (Z : Shape) (leader present : ℕ) (b : Bytes) → clusterRefusal Z leader present b ≡ 0 → shapeRefusal Z present (length b) ≡ 0
+cluster-shaped Z leader present b e = else-zero-l _ _ (sym (cluster-is Z leader present b) ∙ e)

@@ -3,12 +3,13 @@ use Prim.Native.Nat.{ℕ, zero, suc, pred, _+_, _*_, _/_, _%_, _^_, _≤_, _<_}
 use mathlib.Core.Path.{_≡_, refl, sym, _∙_, ap, subst}
 use mathlib.Core.Bool.{Bool, true, false, not, _&&_, true≢false}
 use native.Mathlib.Omega.{arith}
-use native.Mathlib.Nat.{mul-comm, suc-pred-eq-of-pos}
+use native.Mathlib.Nat.{suc-pred-eq-of-pos}
 use lib.Dec.{eqb, leb, ltb}
 use lib.ListN.{length}
 use borrow.Author.Tests.{eqb-true, eq-eqb, ne-eqb, leb-true, ltb-true, lt-ltb}
 use Rattle.slices.specs.Parts.{Bytes}
 use Rattle.slices.proofs.SameLaws.{and-left, and-right, and-true}
+use Rattle.record.specs.declared.Shape.{Shape}
 use Rattle.image.specs.Refusal.{refuse, _else_}
 use Rattle.image.specs.View.{isSize, isReplica, isSlots, readRefusal}
 use Rattle.image.specs.Cluster.{imageAt, imagePart}
@@ -16,7 +17,6 @@ use Rattle.image.proofs.CallLaws.{is-slots, slots-low, slots-high, is-size, siz
 use Rattle.planner.specs.Setting.{settingOf, has}
 use Rattle.planner.specs.Plan.{viewsIn, shapeRefusal, clusterRefusal, lentRefusal, planRefusal}
 use Rattle.planner.specs.ClusterRefusalClaim.{LowestApplying, InSet, ClusterRefused, PlanRefused, slots, replicas, size, stray, no-leader, away, unreadable, cluster, plan, table}
-use Rattle.planner.proofs.SeenLaws.{start-is}
 use Rattle.planner.proofs.AskingLaws.{own-refusal}
 use Rattle.planner.proofs.BitLaws.{high-one, no-high-one}
 
@@ -106,74 +106,71 @@ within : (n c : ℕ) → isReplica n c ≡ true → (1 ≤ c) × (c ≤ n)
 unfolding isReplica
 within n c e = (leb-true 1 c (and-left (leb 1 c) (leb c n) e), leb-true c n (and-right (leb 1 c) (leb c n) e))
 
-module _ (n m leading present : ℕ) (b : Bytes) where
+module _ (Z : Shape) (leading present : ℕ) (b : Bytes) where
   abbrev leads : Bool
-  leads = isReplica n leading && viewsIn (settingOf n m leading present) b (pred leading) .readable
+  leads = isReplica (Z .n) leading && viewsIn (settingOf Z leading present) b (pred leading) .readable
 
   abbrev unrefused : Bool
-  unrefused = eqb (readRefusal leading n m (imagePart m b (pred leading))) 0
+  unrefused = eqb (readRefusal Z leading (imagePart Z b (pred leading))) 0
 
-  full : n * (28 + 274 * m) ≡ imageAt m n
-  full = mul-comm n (28 + 274 * m) ∙ start-is m n
-
-  module _ (s : isSlots m ≡ true) (z : isSize n ≡ true) (l : eqb (length b) (imageAt m n) ≡ true) where
+  module _ (s : isSlots (Z .m) ≡ true) (z : isSize (Z .n) ≡ true) (l : eqb (length b) (imageAt Z (Z .n)) ≡ true) where
     -- the leader is readable if it is in the set and its own image is not refused
-    own : (1 ≤ leading) × (leading ≤ n) → viewsIn (settingOf n m leading present) b (pred leading) .readable ≡ has present (pred leading) && unrefused
+    own : (1 ≤ leading) × (leading ≤ Z .n) → viewsIn (settingOf Z leading present) b (pred leading) .readable ≡ has present (pred leading) && unrefused
     own h =
         let e = suc-pred-eq-of-pos (h .0) in
-        let k : pred leading < n = subst (λ (x : ℕ). x ≤ n) (sym e) (h .1) in
+        let k : pred leading < Z .n = subst (λ (x : ℕ). x ≤ Z .n) (sym e) (h .1) in
         subst
-        (λ (x : ℕ). viewsIn (settingOf n m leading present) b (pred leading) .readable ≡ has present (pred leading) && eqb (readRefusal x n m (imagePart m b (pred leading))) 0)
+        (λ (x : ℕ). viewsIn (settingOf Z leading present) b (pred leading) .readable ≡ has present (pred leading) && eqb (readRefusal Z x (imagePart Z b (pred leading))) 0)
         e
-        (own-refusal n m leading present b (pred leading) z s (eqb-true (length b) (imageAt m n) l) k)
+        (own-refusal Z leading present b (pred leading) z s (eqb-true (length b) (imageAt Z (Z .n)) l) k)
 
     led : leads ≡ true → has present (pred leading) && unrefused ≡ true
     led e =
-        sym (own (within n leading (and-left (isReplica n leading) (viewsIn (settingOf n m leading present) b (pred leading) .readable) e)))
-        ∙ and-right (isReplica n leading) (viewsIn (settingOf n m leading present) b (pred leading) .readable) e
+        sym (own (within (Z .n) leading (and-left (isReplica (Z .n) leading) (viewsIn (settingOf Z leading present) b (pred leading) .readable) e)))
+        ∙ and-right (isReplica (Z .n) leading) (viewsIn (settingOf Z leading present) b (pred leading) .readable) e
 
-    leads-not : leads ≡ false → ClusterRefused n m leading present b 12
+    leads-not : leads ≡ false → ClusterRefused Z leading present b 12
     unfolding has
-    leads-not e = go (isReplica n leading) (has present (pred leading)) unrefused refl refl refl
+    leads-not e = go (isReplica (Z .n) leading) (has present (pred leading)) unrefused refl refl refl
       where
-        go : (x y u : Bool) → isReplica n leading ≡ x → has present (pred leading) ≡ y → unrefused ≡ u → ClusterRefused n m leading present b 12
-        go false y u p q r = no-leader (λ h. so-not p (is-replica n leading (h .0) (h .1)))
+        go : (x y u : Bool) → isReplica (Z .n) leading ≡ x → has present (pred leading) ≡ y → unrefused ≡ u → ClusterRefused Z leading present b 12
+        go false y u p q r = no-leader (λ h. so-not p (is-replica (Z .n) leading (h .0) (h .1)))
         go true false u p q r = away (λ h. so-not q (eq-eqb (present / 2 ^ pred leading % 2) 1 h))
-        go true true false p q r = unreadable (λ h. so-not r (eq-eqb (readRefusal leading n m (imagePart m b (pred leading))) 0 h))
+        go true true false p q r = unreadable (λ h. so-not r (eq-eqb (readRefusal Z leading (imagePart Z b (pred leading))) 0 h))
         go true true true p q r =
-            absurd (so-not e (and-true (isReplica n leading) (viewsIn (settingOf n m leading present) b (pred leading) .readable) p
-            (own (within n leading p) ∙ and-true (has present (pred leading)) unrefused q r)))
+            absurd (so-not e (and-true (isReplica (Z .n) leading) (viewsIn (settingOf Z leading present) b (pred leading) .readable) p
+            (own (within (Z .n) leading p) ∙ and-true (has present (pred leading)) unrefused q r)))
 
-  applies : ¬ (clusterRefusal n m leading present b ≡ 0) → ClusterRefused n m leading present b (clusterRefusal n m leading present b)
+  applies : ¬ (clusterRefusal Z leading present b ≡ 0) → ClusterRefused Z leading present b (clusterRefusal Z leading present b)
   unfolding clusterRefusal shapeRefusal
   applies h =
-      shown (ClusterRefused n m leading present b) (isSlots m) (isSize n) (eqb (length b) (imageAt m n)) (ltb present (2 ^ n)) leads
-      (λ e. slots (λ p. so-not e (is-slots m (p .0) (p .1))))
-      (λ e. replicas (λ p. so-not e (is-size n (omega (arith, p .0)) (omega (arith, p .1)))))
-      (λ e. size (λ p. so-not e (eq-eqb (length b) (imageAt m n) (p ∙ full))))
-      (λ e. let i = high-one n present (λ p. so-not e (lt-ltb present (2 ^ n) p)) in stray (i .at) (omega (arith, i .from)) (i .is))
+      shown (ClusterRefused Z leading present b) (isSlots (Z .m)) (isSize (Z .n)) (eqb (length b) (imageAt Z (Z .n))) (ltb present (2 ^ Z .n)) leads
+      (λ e. slots (λ p. so-not e (is-slots (Z .m) (p .0) (p .1))))
+      (λ e. replicas (λ p. so-not e (is-size (Z .n) (omega (arith, p .0)) (omega (arith, p .1)))))
+      (λ e. size (λ p. so-not e (eq-eqb (length b) (imageAt Z (Z .n)) p)))
+      (λ e. let i = high-one (Z .n) present (λ p. so-not e (lt-ltb present (2 ^ Z .n) p)) in stray (i .at) (omega (arith, i .from)) (i .is))
       leads-not
       h
 
-  at-most : (q : ℕ) → ClusterRefused n m leading present b q → UpTo q (clusterRefusal n m leading present b)
+  at-most : (q : ℕ) → ClusterRefused Z leading present b q → UpTo q (clusterRefusal Z leading present b)
   unfolding clusterRefusal shapeRefusal has
-  at-most q (slots h) = by-slots (isSlots m) (isSize n) (eqb (length b) (imageAt m n)) (ltb present (2 ^ n)) leads (not-so (isSlots m) (λ e. h (slots-low m e, slots-high m e)))
-  at-most q (replicas h) = by-replicas (isSlots m) (isSize n) (eqb (length b) (imageAt m n)) (ltb present (2 ^ n)) leads (not-so (isSize n) (λ e. h (omega (arith, size-low n e), omega (arith, size-high n e))))
+  at-most q (slots h) = by-slots (isSlots (Z .m)) (isSize (Z .n)) (eqb (length b) (imageAt Z (Z .n))) (ltb present (2 ^ Z .n)) leads (not-so (isSlots (Z .m)) (λ e. h (slots-low (Z .m) e, slots-high (Z .m) e)))
+  at-most q (replicas h) = by-replicas (isSlots (Z .m)) (isSize (Z .n)) (eqb (length b) (imageAt Z (Z .n))) (ltb present (2 ^ Z .n)) leads (not-so (isSize (Z .n)) (λ e. h (omega (arith, size-low (Z .n) e), omega (arith, size-high (Z .n) e))))
   at-most q (size h) =
-      by-size (isSlots m) (isSize n) (eqb (length b) (imageAt m n)) (ltb present (2 ^ n)) leads (not-so (eqb (length b) (imageAt m n)) (λ e. h (eqb-true (length b) (imageAt m n) e ∙ sym full)))
+      by-size (isSlots (Z .m)) (isSize (Z .n)) (eqb (length b) (imageAt Z (Z .n))) (ltb present (2 ^ Z .n)) leads (not-so (eqb (length b) (imageAt Z (Z .n))) (λ e. h (eqb-true (length b) (imageAt Z (Z .n)) e)))
   at-most q (stray c l h) =
-      by-set (isSlots m) (isSize n) (eqb (length b) (imageAt m n)) (ltb present (2 ^ n)) leads (not-so (ltb present (2 ^ n)) (λ e. no-high-one n present c (ltb-true present (2 ^ n) e) (omega arith) h))
+      by-set (isSlots (Z .m)) (isSize (Z .n)) (eqb (length b) (imageAt Z (Z .n))) (ltb present (2 ^ Z .n)) leads (not-so (ltb present (2 ^ Z .n)) (λ e. no-high-one (Z .n) present c (ltb-true present (2 ^ Z .n) e) (omega arith) h))
   at-most q (no-leader h) =
-      by-leader (isSlots m) (isSize n) (eqb (length b) (imageAt m n)) (ltb present (2 ^ n)) leads
-      (λ s z l. not-so leads (λ e. h (within n leading (and-left (isReplica n leading) (viewsIn (settingOf n m leading present) b (pred leading) .readable) e))))
+      by-leader (isSlots (Z .m)) (isSize (Z .n)) (eqb (length b) (imageAt Z (Z .n))) (ltb present (2 ^ Z .n)) leads
+      (λ s z l. not-so leads (λ e. h (within (Z .n) leading (and-left (isReplica (Z .n) leading) (viewsIn (settingOf Z leading present) b (pred leading) .readable) e))))
   at-most q (away h) =
-      by-leader (isSlots m) (isSize n) (eqb (length b) (imageAt m n)) (ltb present (2 ^ n)) leads
+      by-leader (isSlots (Z .m)) (isSize (Z .n)) (eqb (length b) (imageAt Z (Z .n))) (ltb present (2 ^ Z .n)) leads
       (λ s z l. not-so leads (λ e. h (eqb-true (present / 2 ^ pred leading % 2) 1 (and-left (has present (pred leading)) unrefused (led s z l e)))))
   at-most q (unreadable h) =
-      by-leader (isSlots m) (isSize n) (eqb (length b) (imageAt m n)) (ltb present (2 ^ n)) leads
-      (λ s z l. not-so leads (λ e. h (eqb-true (readRefusal leading n m (imagePart m b (pred leading))) 0 (and-right (has present (pred leading)) unrefused (led s z l e)))))
+      by-leader (isSlots (Z .m)) (isSize (Z .n)) (eqb (length b) (imageAt Z (Z .n))) (ltb present (2 ^ Z .n)) leads
+      (λ s z l. not-so leads (λ e. h (eqb-true (readRefusal Z leading (imagePart Z b (pred leading))) 0 (and-right (has present (pred leading)) unrefused (led s z l e)))))
 
-  pub cluster-lowest : LowestApplying (ClusterRefused n m leading present b) (clusterRefusal n m leading present b)
+  pub cluster-lowest : LowestApplying (ClusterRefused Z leading present b) (clusterRefusal Z leading present b)
   cluster-lowest = lowest-of applies at-most
 
 -- ---- 13, after the others
@@ -195,31 +192,31 @@ by-lent zero true h e = absurd (true≢false e)
 by-lent zero false h e = (omega arith, omega arith)
 by-lent (suc r) t h e = (omega arith, omega arith)
 
-module _ (n m leading present : ℕ) (b : Bytes) (bytes rows : ℕ) where
+module _ (Z : Shape) (leading present : ℕ) (b : Bytes) (bytes rows : ℕ) where
   abbrev lent : Bool
-  lent = eqb bytes m && eqb rows n
+  lent = eqb bytes (Z .m) && eqb rows (Z .n)
 
-  few : clusterRefusal n m leading present b ≤ 12
+  few : clusterRefusal Z leading present b ≤ 12
   unfolding clusterRefusal shapeRefusal
-  few = up-to-12 (isSlots m) (isSize n) (eqb (length b) (imageAt m n)) (ltb present (2 ^ n)) (leads n m leading present b)
+  few = up-to-12 (isSlots (Z .m)) (isSize (Z .n)) (eqb (length b) (imageAt Z (Z .n))) (ltb present (2 ^ Z .n)) (leads Z leading present b)
 
-  lent-not : lent ≡ false → PlanRefused n m leading present b bytes rows 13
-  lent-not e = go (eqb bytes m) (eqb rows n) refl refl
+  lent-not : lent ≡ false → PlanRefused Z leading present b bytes rows 13
+  lent-not e = go (eqb bytes (Z .m)) (eqb rows (Z .n)) refl refl
     where
-      go : (x y : Bool) → eqb bytes m ≡ x → eqb rows n ≡ y → PlanRefused n m leading present b bytes rows 13
-      go false y p q = plan (λ h. so-not p (eq-eqb bytes m h))
-      go true false p q = table (λ h. so-not q (eq-eqb rows n h))
-      go true true p q = absurd (so-not e (and-true (eqb bytes m) (eqb rows n) p q))
+      go : (x y : Bool) → eqb bytes (Z .m) ≡ x → eqb rows (Z .n) ≡ y → PlanRefused Z leading present b bytes rows 13
+      go false y p q = plan (λ h. so-not p (eq-eqb bytes (Z .m) h))
+      go true false p q = table (λ h. so-not q (eq-eqb rows (Z .n) h))
+      go true true p q = absurd (so-not e (and-true (eqb bytes (Z .m)) (eqb rows (Z .n)) p q))
 
-  plan-at-most : (q : ℕ) → PlanRefused n m leading present b bytes rows q → UpTo q (planRefusal n m leading present b bytes rows)
+  plan-at-most : (q : ℕ) → PlanRefused Z leading present b bytes rows q → UpTo q (planRefusal Z leading present b bytes rows)
   unfolding planRefusal lentRefusal
-  plan-at-most q (cluster r) = lent-lower (clusterRefusal n m leading present b) lent q (at-most n m leading present b q r)
-  plan-at-most q (plan h) = by-lent (clusterRefusal n m leading present b) lent few (not-so lent (λ e. h (eqb-true bytes m (and-left (eqb bytes m) (eqb rows n) e))))
-  plan-at-most q (table h) = by-lent (clusterRefusal n m leading present b) lent few (not-so lent (λ e. h (eqb-true rows n (and-right (eqb bytes m) (eqb rows n) e))))
+  plan-at-most q (cluster r) = lent-lower (clusterRefusal Z leading present b) lent q (at-most Z leading present b q r)
+  plan-at-most q (plan h) = by-lent (clusterRefusal Z leading present b) lent few (not-so lent (λ e. h (eqb-true bytes (Z .m) (and-left (eqb bytes (Z .m)) (eqb rows (Z .n)) e))))
+  plan-at-most q (table h) = by-lent (clusterRefusal Z leading present b) lent few (not-so lent (λ e. h (eqb-true rows (Z .n) (and-right (eqb bytes (Z .m)) (eqb rows (Z .n)) e))))
 
-  pub plan-lowest : LowestApplying (PlanRefused n m leading present b bytes rows) (planRefusal n m leading present b bytes rows)
+  pub plan-lowest : LowestApplying (PlanRefused Z leading present b bytes rows) (planRefusal Z leading present b bytes rows)
   unfolding planRefusal lentRefusal
   plan-lowest =
       lowest-of
-      (lent-shown (PlanRefused n m leading present b bytes rows) (clusterRefusal n m leading present b) lent (λ h. cluster (applies n m leading present b h)) lent-not)
+      (lent-shown (PlanRefused Z leading present b bytes rows) (clusterRefusal Z leading present b) lent (λ h. cluster (applies Z leading present b h)) lent-not)
       plan-at-most

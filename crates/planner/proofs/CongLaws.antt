@@ -22,13 +22,13 @@ pub record SameAt (n : ℕ) (U W : ℕ → View) (k : ℕ) : Type 0 where
   pub conditions : (c : ℕ) → c < n → W c .readable ≡ true → U c .condition k ≡ W c .condition k
   pub epochs : (c : ℕ) → c < n → W c .readable ≡ true → U c .epoch k ≡ W c .epoch k
 
-module _ (S T : Setting) (U W : ℕ → View) (en : S .n ≡ T .n) (el : S .leader ≡ T .leader) (lead : T .leader < T .n) (ok : W (T .leader) .readable ≡ true) where
-  module _ (k : ℕ) (same : SameAt (T .n) U W k) where
-    answers-cong : (c : ℕ) → c < T .n → answers S U c ≡ answers T W c
+module _ (S T : Setting) (U W : ℕ → View) (en : S .shape .n ≡ T .shape .n) (el : S .leader ≡ T .leader) (lead : T .leader < T .shape .n) (ok : W (T .leader) .readable ≡ true) where
+  module _ (k : ℕ) (same : SameAt (T .shape .n) U W k) where
+    answers-cong : (c : ℕ) → c < T .shape .n → answers S U c ≡ answers T W c
     unfolding answers
     answers-cong c h = rw (el, same .readables c h) refl
 
-    agrees-cong : (c : ℕ) → c < T .n → W c .readable ≡ true → agrees S U c k ≡ agrees T W c k
+    agrees-cong : (c : ℕ) → c < T .shape .n → W c .readable ≡ true → agrees S U c k ≡ agrees T W c k
     unfolding agrees
     agrees-cong c h r = rw (el, same .conditions c h r, same .epochs c h r, same .epochs (T .leader) lead ok) refl
 
@@ -36,7 +36,7 @@ module _ (S T : Setting) (U W : ℕ → View) (en : S .n ≡ T .n) (el : S .lead
     unfolding answers
     silent P c x r = rw (r, and-off (not (eqb c (T .leader)))) refl
 
-    have-cong : (c : ℕ) → c < T .n → have S U k c ≡ have T W k c
+    have-cong : (c : ℕ) → c < T .shape .n → have S U k c ≡ have T W k c
     unfolding have
     have-cong c h = go (W c .readable) refl
       where
@@ -44,7 +44,7 @@ module _ (S T : Setting) (U W : ℕ → View) (en : S .n ≡ T .n) (el : S .lead
         go true r = rw (answers-cong c h, same .conditions c h r, agrees-cong c h r) refl
         go false r = rw (answers-cong c h, silent W c (isWhole (U c .condition k)) r, silent W c (isWhole (W c .condition k)) r) refl
 
-    lacks-cong : (c : ℕ) → c < T .n → dontHave S U k c ≡ dontHave T W k c
+    lacks-cong : (c : ℕ) → c < T .shape .n → dontHave S U k c ≡ dontHave T W k c
     unfolding dontHave
     lacks-cong c h = go (W c .readable) refl
       where
@@ -54,7 +54,7 @@ module _ (S T : Setting) (U W : ℕ → View) (en : S .n ≡ T .n) (el : S .lead
 
     donor-cong : donor S U k ≡ donor T W k
     unfolding donor
-    donor-cong = ap (lowest (have S U k)) en ∙ lowest-cong (have S U k) (have T W k) (T .n) have-cong
+    donor-cong = ap (lowest (have S U k)) en ∙ lowest-cong (have S U k) (have T W k) (T .shape .n) have-cong
 
     condition-cong : U (S .leader) .condition k ≡ W (T .leader) .condition k
     condition-cong = rw el (same .conditions (T .leader) lead ok)
@@ -64,10 +64,10 @@ module _ (S T : Setting) (U W : ℕ → View) (en : S .n ≡ T .n) (el : S .lead
     rule-cong =
         let a = condition-cong in
         let b = donor-cong in
-        let d = ap (count (dontHave S U k)) en ∙ count-cong (dontHave S U k) (dontHave T W k) (T .n) lacks-cong in
+        let d = ap (count (dontHave S U k)) en ∙ count-cong (dontHave S U k) (dontHave T W k) (T .shape .n) lacks-cong in
         cc
 
-  module _ (l : U (S .leader) .length ≡ W (T .leader) .length) (same : (k : ℕ) → k < W (T .leader) .length → SameAt (T .n) U W k) where
+  module _ (l : U (S .leader) .length ≡ W (T .leader) .length) (same : (k : ℕ) → k < W (T .leader) .length → SameAt (T .shape .n) U W k) where
     pub end-cong : end S U ≡ end T W
     unfolding end
     end-cong =

@@ -11,6 +11,7 @@ use lib.Seq.{length-take-le}
 use borrow.Author.Tests.{eqb-true, eq-eqb, ne-eqb, lt-ltb, le-ltb}
 use Rattle.slices.specs.Parts.{Bytes}
 use Rattle.search.specs.Search.{listed}
+use Rattle.record.specs.declared.Shape.{Shape}
 use Rattle.image.specs.Refusal.{unlessRefused}
 use Rattle.image.specs.View.{View}
 use Rattle.image.specs.Answers.{value}
@@ -62,7 +63,7 @@ left-alone refusal new old e = rw (ne-eqb refusal 0 e) refl
 
 module _ (S : Setting) (W : ℕ → View) {n leader readable : ℕ} {lengths conditions epochs : List ℕ} (o : SurveyOf S W n leader readable lengths conditions epochs) where
   pub rows-ask : (n ≤ 7) × ((c : ℕ) → c < n → has readable c ≡ true → getD lengths c 0 ≤ 64)
-  rows-ask = (o .few, lengths-fit n (S .m) readable W lengths conditions epochs (o .surveyed) (λ c b r. o .logs-fit c) (o .slots-fit))
+  rows-ask = (o .few, lengths-fit n (S .shape .m) readable W lengths conditions epochs (o .surveyed) (λ c b r. o .logs-fit c) (o .slots-fit))
 
   pub planned-outcome : {refusal final waiting : ℕ} {bytes : List ℕ} {a : PlanAnswer} {rows : List ReplicaRow} → refusal ≡ 0 → Planned S W bytes final waiting → planNumbers a ≡ answerAt final waiting
       → (length rows ≡ 7) × (take n rows ≡ listed n (numberRow readable lengths epochs)) → Outcome refusal S W a n rows
@@ -71,25 +72,25 @@ module _ (S : Setting) (W : ℕ → View) {n leader readable : ℕ} {lengths con
     sized = t .0;
     answer-is = e ∙ answer-found S W (rw (o .leader-is) (o .leader-reads)) (p .end-is) (p .waiting-is) ∙ rw (eq-eqb _ _ z) refl;
     count-is = rw (eq-eqb _ _ z) (sym (o .n-is));
-    rows-are = λ _. rw (o .n-is) (t .1 ∙ rows-are n (S .m) readable W lengths conditions epochs (o .surveyed) (λ c b r. o .logs-fit c));
+    rows-are = λ _. rw (o .n-is) (t .1 ∙ rows-are n (S .shape .m) readable W lengths conditions epochs (o .surveyed) (λ c b r. o .logs-fit c));
   }
 
 -- the plan's bytes are copied from those of 64 slots
-module _ (n m leader present : ℕ) {W : ℕ → View} {l readable : ℕ} {lengths conditions epochs : List ℕ} (o : SurveyOf (settingOf n m leader present) W n l readable lengths conditions epochs)
-    {final waiting : ℕ} {bytes : List ℕ} (p : Planned (settingOf n m leader present) W bytes final waiting) where
-  pub slots-there : m ≤ length bytes
+module _ (Z : Shape) (leader present : ℕ) {W : ℕ → View} {l readable : ℕ} {lengths conditions epochs : List ℕ} (o : SurveyOf (settingOf Z leader present) W (Z .n) l readable lengths conditions epochs)
+    {final waiting : ℕ} {bytes : List ℕ} (p : Planned (settingOf Z leader present) W bytes final waiting) where
+  pub slots-there : Z .m ≤ length bytes
   unfolding settingOf
   slots-there = omega (arith, o .slots-fit, p .sized)
 
-  pub copy-asks : {size : ℕ} → size ≡ m → size ≡ length (take (m - 0) bytes)
+  pub copy-asks : {size : ℕ} → size ≡ Z .m → size ≡ length (take (Z .m - 0) bytes)
   copy-asks e =
-      let z : m - 0 ≡ m = omega arith in
-      rw z (e ∙ sym (length-take-le m bytes slots-there))
+      let z : Z .m - 0 ≡ Z .m = omega arith in
+      rw z (e ∙ sym (length-take-le (Z .m) bytes slots-there))
 
-  pub bytes-filled : {refusal : ℕ} {new : List ℕ} (old : List ℕ) → refusal ≡ 0 → new ≡ take (m - 0) bytes → new ≡ unlessRefused refusal (planBytes (settingOf n m leader present) W) old
+  pub bytes-filled : {refusal : ℕ} {new : List ℕ} (old : List ℕ) → refusal ≡ 0 → new ≡ take (Z .m - 0) bytes → new ≡ unlessRefused refusal (planBytes (settingOf Z leader present) W) old
   unfolding unlessRefused settingOf
   bytes-filled {refusal} old z e =
-      let k : m - 0 ≡ m = omega arith in
+      let k : Z .m - 0 ≡ Z .m = omega arith in
       rw (eq-eqb refusal 0 z) (e ∙ rw k (p .bytes-are))
 
 pub outcome-at : {r q : ℕ} {S : Setting} {W : ℕ → View} {a : PlanAnswer} {count : ℕ} {rows : List ReplicaRow} → r ≡ q → Outcome r S W a count rows → Outcome q S W a count rows
@@ -97,47 +98,47 @@ outcome-at {r} {q} {S} {W} {a} {count} {rows} e o = subst (λ (x : ℕ). Outcome
 
 -- the rows of the table afterwards
 pub rows-filled : {refusal : ℕ} {S : Setting} {W : ℕ → View} {a : PlanAnswer} {count : ℕ} {rows : List ReplicaRow} (old : List ReplicaRow) → Outcome refusal S W a count rows
-    → (refusal ≡ 0 → length old ≡ S .n) → frontRows count rows old ≡ unlessRefused refusal (rowsOf S W) old
+    → (refusal ≡ 0 → length old ≡ S .shape .n) → frontRows count rows old ≡ unlessRefused refusal (rowsOf S W) old
 unfolding unlessRefused frontRows
 rows-filled {refusal} {S} {W} {a} {count} {rows} old o l = go (eqb refusal 0) refl
   where
     go : (t : Bool) → eqb refusal 0 ≡ t → frontRows count rows old ≡ cond t (rowsOf S W) old
     go true e =
         let z = eqb-true refusal 0 e in
-        rw (o .count-is, e) (front-all (S .n) rows old (l z) ∙ o .rows-are z)
+        rw (o .count-is, e) (front-all (S .shape .n) rows old (l z) ∙ o .rows-are z)
     go false e = rw (o .count-is, e) (sym (front-none rows old))
 
 pub count-fits : {refusal : ℕ} {S : Setting} {W : ℕ → View} {a : PlanAnswer} {count : ℕ} {rows : List ReplicaRow} (old : List ReplicaRow) → Outcome refusal S W a count rows
-    → (refusal ≡ 0 → (length old ≡ S .n) × (S .n ≤ 7)) → (count ≤ 7) × (count ≤ length old)
+    → (refusal ≡ 0 → (length old ≡ S .shape .n) × (S .shape .n ≤ 7)) → (count ≤ 7) × (count ≤ length old)
 count-fits {refusal} {S} {W} {a} {count} {rows} old o l = go (eqb refusal 0) refl
   where
     go : (t : Bool) → eqb refusal 0 ≡ t → (count ≤ 7) × (count ≤ length old)
     go true e =
         let z = l (eqb-true refusal 0 e) in
-        let n : count ≡ S .n = o .count-is ∙ rw e refl in
+        let n : count ≡ S .shape .n = o .count-is ∙ rw e refl in
         (omega (arith, z .1), omega (arith, z .0))
     go false e = let n : count ≡ 0 = o .count-is ∙ rw e refl in (omega arith, omega arith)
 
 -- a call that is not refused has a table of n rows
-pub table-fits : (n m leader present : ℕ) (b : Bytes) (bytes rows : ℕ) → planRefusal n m leader present b bytes rows ≡ 0 → (rows ≡ n) × (n ≤ 7)
+pub table-fits : (Z : Shape) (leader present : ℕ) (b : Bytes) (bytes rows : ℕ) → planRefusal Z leader present b bytes rows ≡ 0 → (rows ≡ Z .n) × (Z .n ≤ 7)
 unfolding planRefusal lentRefusal
-table-fits n m leader present b bytes rows e = (
-  lent-rows (clusterRefusal n m leader present b) n m bytes rows (sym e) refl,
-  size-high n (shaped-size n m present (length b) (cluster-shaped n m leader present b (lent-zero (clusterRefusal n m leader present b) n m bytes rows (sym e) refl))),
+table-fits Z leader present b bytes rows e = (
+  lent-rows (clusterRefusal Z leader present b) Z bytes rows (sym e) refl,
+  size-high (Z .n) (shaped-size Z present (length b) (cluster-shaped Z leader present b (lent-zero (clusterRefusal Z leader present b) Z bytes rows (sym e) refl))),
 )
 
 -- ---- the call as a whole
 
-module _ (n m leader present : ℕ) (b : Bytes) (bytes : ℕ) (old : List ReplicaRow) {a : PlanAnswer} {count : ℕ} {rows : List ReplicaRow}
-    (o : Outcome (planRefusal n m leader present b bytes (length old)) (settingOf n m leader present) (viewsIn (settingOf n m leader present) b) a count rows) where
+module _ (Z : Shape) (leader present : ℕ) (b : Bytes) (bytes : ℕ) (old : List ReplicaRow) {a : PlanAnswer} {count : ℕ} {rows : List ReplicaRow}
+    (o : Outcome (planRefusal Z leader present b bytes (length old)) (settingOf Z leader present) (viewsIn (settingOf Z leader present) b) a count rows) where
   pub fill-asks : {k : ℕ} → k ≡ count → (length rows ≡ 7) × (k ≤ 7) × (k ≤ length old)
   unfolding settingOf
-  fill-asks e = let f = count-fits old o (table-fits n m leader present b bytes (length old)) in (o .sized, omega (arith, f .0), omega (arith, f .1))
+  fill-asks e = let f = count-fits old o (table-fits Z leader present b bytes (length old)) in (o .sized, omega (arith, f .0), omega (arith, f .1))
 
-  pub call-answers : {r : PlanAnswer} → r ≡ a → planNumbers r ≡ planNumbered (planRefusal n m leader present b bytes (length old)) (answer (settingOf n m leader present) (viewsIn (settingOf n m leader present) b))
+  pub call-answers : {r : PlanAnswer} → r ≡ a → planNumbers r ≡ planNumbered (planRefusal Z leader present b bytes (length old)) (answer (settingOf Z leader present) (viewsIn (settingOf Z leader present) b))
   call-answers e = ap planNumbers e ∙ o .answer-is
 
   pub call-fills : {k : ℕ} {new : List ReplicaRow} → k ≡ count → new ≡ frontRows k rows old
-      → new ≡ unlessRefused (planRefusal n m leader present b bytes (length old)) (rowsOf (settingOf n m leader present) (viewsIn (settingOf n m leader present) b)) old
+      → new ≡ unlessRefused (planRefusal Z leader present b bytes (length old)) (rowsOf (settingOf Z leader present) (viewsIn (settingOf Z leader present) b)) old
   unfolding settingOf
-  call-fills e q = q ∙ rw e (rows-filled old o (λ z. table-fits n m leader present b bytes (length old) z .0))
+  call-fills e q = q ∙ rw e (rows-filled old o (λ z. table-fits Z leader present b bytes (length old) z .0))

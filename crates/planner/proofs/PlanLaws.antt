@@ -113,7 +113,7 @@ pub plan-of : (n leader l readable : ℕ) (lengths conditions epochs kept : List
 unfolding surveySetting surveyViews planBytes
 plan-of n leader l readable lengths conditions epochs kept {bytes} {final} {waiting} le fits lead f w b q S W o = record {
   sized = ap length are ∙ length-listed 64 (planByte T U);
-  bytes-are = rw are (take-listed 64 (S .m) (planByte T U) (o .slots-fit) ∙ listed-cong (S .m) (planByte T U) (planByte S W) (λ k h. byte-cong T S U W en el lead′ ok len same k));
+  bytes-are = rw are (take-listed 64 (S .shape .m) (planByte T U) (o .slots-fit) ∙ listed-cong (S .shape .m) (planByte T U) (planByte S W) (λ k h. byte-cong T S U W en el lead′ ok len same k));
   end-is = f ∙ end-cong T S U W en el lead′ ok len same;
   waiting-is = q ∙ waiting-is T U kept final f w bytes are fits ∙ waiting-cong T S U W en el lead′ ok len same;
 }
@@ -124,13 +124,13 @@ plan-of n leader l readable lengths conditions epochs kept {bytes} {final} {wait
     U : ℕ → View
     U = surveyViews l readable conditions epochs
 
-    en : n ≡ S .n
+    en : n ≡ S .shape .n
     en = sym (o .n-is)
 
     el : leader ≡ S .leader
     el = sym (o .leader-is)
 
-    lead′ : S .leader < S .n
+    lead′ : S .leader < S .shape .n
     lead′ = omega (arith, en, el)
 
     ok : W (S .leader) .readable ≡ true
@@ -139,11 +139,11 @@ plan-of n leader l readable lengths conditions epochs kept {bytes} {final} {wait
     len : l ≡ W (S .leader) .length
     len = log-is n leader readable lengths conditions epochs S W o lead l le
 
-    log-fits : W (S .leader) .length ≤ S .m
+    log-fits : W (S .leader) .length ≤ S .shape .m
     log-fits = o .logs-fit (S .leader)
 
-    same : (k : ℕ) → k < W (S .leader) .length → SameAt (S .n) U W k
-    same k h = rw (o .n-is) (same-at n (S .m) readable l lengths conditions epochs W (o .surveyed) k (omega (arith, log-fits)))
+    same : (k : ℕ) → k < W (S .leader) .length → SameAt (S .shape .n) U W k
+    same k h = rw (o .n-is) (same-at n (S .shape .m) readable l lengths conditions epochs W (o .surveyed) k (omega (arith, log-fits)))
 
     are : bytes ≡ listed 64 (planByte T U)
     are = b ∙ listed-cong 64 (markedByte kept final l) (planByte T U) (λ k h. marked-is T U kept final f w k)

@@ -32,17 +32,17 @@ module _ (S : Setting) (W : ℕ → View) (k : ℕ) where
   keeps f = rw f refl
 
   module _ (f : isFaulty (W (S .leader) .condition k) ≡ true) where
-    pub fetches : (d : ℕ) → donor S W k ≡ d → d < S .n → rule S W k ≡ Fetch
+    pub fetches : (d : ℕ) → donor S W k ≡ d → d < S .shape .n → rule S W k ≡ Fetch
     unfolding rule
-    fetches d e h = rw (f, e, lt-ltb d (S .n) h) refl
+    fetches d e h = rw (f, e, lt-ltb d (S .shape .n) h) refl
 
-    pub no-donor : donor S W k ≡ S .n → rule S W k ≡ cond (mayTruncate (S .n) (count (dontHave S W k) (S .n))) Truncate Wait
+    pub no-donor : donor S W k ≡ S .shape .n → rule S W k ≡ cond (mayTruncate (S .shape .n) (count (dontHave S W k) (S .shape .n))) Truncate Wait
     unfolding rule
-    no-donor e = rw (f, e, le-ltb (S .n) (S .n) (omega arith)) refl
+    no-donor e = rw (f, e, le-ltb (S .shape .n) (S .shape .n) (omega arith)) refl
 
-pub donor-is : (S : Setting) (W : ℕ → View) (k d : ℕ) → d ≤ S .n → ((c : ℕ) → c < d → have S W k c ≡ false) → (d < S .n → have S W k d ≡ true) → donor S W k ≡ d
+pub donor-is : (S : Setting) (W : ℕ → View) (k d : ℕ) → d ≤ S .shape .n → ((c : ℕ) → c < d → have S W k c ≡ false) → (d < S .shape .n → have S W k d ≡ true) → donor S W k ≡ d
 unfolding donor
-donor-is S W k d = lowest-is (have S W k) (S .n) d
+donor-is S W k d = lowest-is (have S W k) (S .shape .n) d
 
 -- ---- the walk
 

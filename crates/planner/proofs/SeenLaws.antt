@@ -1,5 +1,5 @@
 -- The survey of a cluster, replica by replica.
-use Prim.Native.Nat.{ℕ, _+_, _*_, _-_, _<_, _≤_}
+use Prim.Native.Nat.{ℕ, suc, _+_, _*_, _-_, _<_, _≤_}
 use mathlib.Core.Path.{_≡_, refl, sym, _∙_, ap, subst}
 use mathlib.Core.Bool.{true, false}
 use mathlib.Core.List.{List}
@@ -13,13 +13,13 @@ use Rattle.slices.specs.Parts.{Bytes}
 use Rattle.slices.proofs.PartLaws.{length-part}
 use Rattle.slices.proofs.SpliceLaws.{part-lent}
 use Rattle.slices.proofs.SameLaws.{and-off, clash}
+use Rattle.record.specs.declared.Shape.{Shape}
 use Rattle.image.specs.Image.{Image, imageSize, decodeImage}
 use Rattle.image.specs.View.{View, viewOf, imageRefusal, conditionAt, epochAt}
 use Rattle.image.specs.View.{conditionNumber}
 use Rattle.image.specs.Seen.{Seen, conditionsOf}
 use Rattle.image.specs.Cluster.{imageAt, imagePart, decode}
-use Rattle.image.proofs.DecodeLaws.{size-is}
-use Rattle.image.proofs.ClusterLaws.{image-at, image-fits}
+use Rattle.image.proofs.ClusterLaws.{image-fits}
 use Rattle.image.proofs.ScannedLaws.{taken-at}
 use Rattle.planner.specs.Setting.{has, settingOf, viewsOf}
 use Rattle.planner.specs.Plan.{viewsIn}
@@ -29,34 +29,28 @@ use Rattle.planner.proofs.SetLaws.{set-none, set-in, set-out, has-set}
 
 -- ---- where an image stands in the cluster
 
-pub size-eq : (m : ℕ) → 28 + 274 * m ≡ imageSize m
-size-eq m = omega (arith, size-is m)
+module _ (Z : Shape) (c : ℕ) (b : Bytes) (h : c < Z .n) (len : length b ≡ imageAt Z (Z .n)) where
+  pub image-there : imageAt Z c + imageSize Z (c + 1) ≤ length b
+  image-there = rw add-one (omega (arith, image-fits Z (Z .n) c h, len))
 
-pub start-is : (m c : ℕ) → (28 + 274 * m) * c ≡ imageAt m c
-start-is m c = ap (λ (z : ℕ). z * c) (size-eq m) ∙ sym (image-at m c)
-
-module _ (n m c : ℕ) (b : Bytes) (h : c < n) (len : length b ≡ imageAt m n) where
-  pub image-there : imageAt m c + imageSize m ≤ length b
-  image-there = omega (arith, image-fits n m c h, len)
-
-  module _ {start size : ℕ} (s : start ≡ imageAt m c) (z : size ≡ imageSize m) where
-    part-is : take (start + size - start) (drop start b) ≡ imagePart m b c
+  module _ {start size : ℕ} (s : start ≡ imageAt Z c) (z : size ≡ imageSize Z (c + 1)) where
+    part-is : take (start + size - start) (drop start b) ≡ imagePart Z b c
     unfolding imagePart
-    part-is = part-lent b start size ∙ rw (s, z) refl
+    part-is = part-lent b start size ∙ rw (s, z, add-one) refl
 
-    pub lent-sized : length (take (start + size - start) (drop start b)) ≡ imageSize m
+    pub lent-sized : length (take (start + size - start) (drop start b)) ≡ imageSize Z (c + 1)
     unfolding imagePart
-    lent-sized = ap length part-is ∙ length-part b (imageAt m c) (imageSize m) image-there
+    lent-sized = ap length part-is ∙ rw add-one (length-part b (imageAt Z c) (imageSize Z (suc c)) (rw add-one at image-there))
 
-    lent-is : decodeImage (c + 1) n m (take (start + size - start) (drop start b)) ≡ decode n m b c
+    lent-is : decodeImage Z (c + 1) (take (start + size - start) (drop start b)) ≡ decode Z b c
     unfolding decode
     lent-is = rw (part-is, add-one) refl
 
-    pub view-there : {r l : ℕ} {cs es : List ℕ}
-        → (r ≡ imageRefusal m (decodeImage (c + 1) n m (take (start + size - start) (drop start b))))
-        × (r ≡ 0 → Seen m (decodeImage (c + 1) n m (take (start + size - start) (drop start b))) l cs es)
-        → (r ≡ imageRefusal m (decode n m b c)) × (r ≡ 0 → Seen m (decode n m b c) l cs es)
-    view-there {r} {l} {cs} {es} p = subst (λ (i : Image). (r ≡ imageRefusal m i) × (r ≡ 0 → Seen m i l cs es)) lent-is p
+    pub view-there : {r first l : ℕ} {cs es : List ℕ}
+        → (r ≡ imageRefusal (Z .m) (decodeImage Z (c + 1) (take (start + size - start) (drop start b))))
+        × (r ≡ 0 → Seen (Z .m) (decodeImage Z (c + 1) (take (start + size - start) (drop start b))) first l cs es)
+        → (r ≡ imageRefusal (Z .m) (decode Z b c)) × (r ≡ 0 → Seen (Z .m) (decode Z b c) first l cs es)
+    view-there {r} {first} {l} {cs} {es} p = subst (λ (i : Image). (r ≡ imageRefusal (Z .m) i) × (r ≡ 0 → Seen (Z .m) i first l cs es)) lent-is p
 
 -- ---- copied slots
 
@@ -156,28 +150,28 @@ partly-more {m} {W} {readable} {lengths} {conditions} {epochs} {seen-conditions}
 
 -- ---- what is seen of replica c
 
-module _ (n m present : ℕ) (b : Bytes) (c : ℕ) where
-  pub absent-off : has present c ≡ false → viewsIn (settingOf n m 0 present) b c .readable ≡ false
+module _ (Z : Shape) (present : ℕ) (b : Bytes) (c : ℕ) where
+  pub absent-off : has present c ≡ false → viewsIn (settingOf Z 0 present) b c .readable ≡ false
   unfolding viewsIn viewsOf viewOf settingOf
   absent-off e = rw e refl
 
-  pub refused-off : (imageRefusal m (decode n m b c) ≡ 0 → ⊥) → viewsIn (settingOf n m 0 present) b c .readable ≡ false
+  pub refused-off : (imageRefusal (Z .m) (decode Z b c) ≡ 0 → ⊥) → viewsIn (settingOf Z 0 present) b c .readable ≡ false
   unfolding viewsIn viewsOf viewOf settingOf
-  refused-off e = rw (ne-eqb (imageRefusal m (decode n m b c)) 0 e) (and-off (has present c))
+  refused-off e = rw (ne-eqb (imageRefusal (Z .m) (decode Z b c)) 0 e) (and-off (has present c))
 
-  pub seen-more : {readable r len : ℕ} {lengths conditions epochs seen-conditions seen-epochs conditions′ epochs′ : List ℕ}
-      → Partly m (viewsIn (settingOf n m 0 present) b) readable lengths conditions epochs c → c < 7 → m ≤ 64 → has present c ≡ true → imageRefusal m (decode n m b c) ≡ 0
-      → Seen m (decode n m b c) len seen-conditions seen-epochs → Copied c conditions seen-conditions conditions′ 64 → Copied c epochs seen-epochs epochs′ 64 → r ≡ inserted readable c
-      → Partly m (viewsIn (settingOf n m 0 present) b) r (set lengths c len) conditions′ epochs′ (c + 1)
+  pub seen-more : {readable r first len : ℕ} {lengths conditions epochs seen-conditions seen-epochs conditions′ epochs′ : List ℕ}
+      → Partly (Z .m) (viewsIn (settingOf Z 0 present) b) readable lengths conditions epochs c → c < 7 → Z .m ≤ 64 → has present c ≡ true → imageRefusal (Z .m) (decode Z b c) ≡ 0
+      → Seen (Z .m) (decode Z b c) first len seen-conditions seen-epochs → Copied c conditions seen-conditions conditions′ 64 → Copied c epochs seen-epochs epochs′ 64 → r ≡ inserted readable c
+      → Partly (Z .m) (viewsIn (settingOf Z 0 present) b) r (set lengths c len) conditions′ epochs′ (c + 1)
   unfolding viewsIn viewsOf viewOf settingOf conditionsOf
-  seen-more {readable} {r} {len} {lengths} {conditions} {epochs} {seen-conditions} {seen-epochs} p c7 m64 on ok s x y q =
+  seen-more {readable} {r} {first} {len} {lengths} {conditions} {epochs} {seen-conditions} {seen-epochs} p c7 m64 on ok s x y q =
       rw q (partly-more c len p c7 m64 (rw (on, eq-eqb _ _ ok) refl) (s .length-is)
-      (taken-at m (λ k. conditionNumber (conditionAt (decode n m b c) k)) seen-conditions (s .conditions-are))
-      (taken-at m (epochAt (decode n m b c)) seen-epochs (s .epochs-are)) x y)
+      (taken-at (Z .m) (λ k. conditionNumber (conditionAt (decode Z b c) k)) seen-conditions (s .conditions-are))
+      (taken-at (Z .m) (epochAt (decode Z b c)) seen-epochs (s .epochs-are)) x y)
 
 -- the leader makes no difference
-pub surveyed-any : (n m present : ℕ) (b : Bytes) {readable : ℕ} {lengths conditions epochs : List ℕ}
-    → Surveyed n m (viewsIn (settingOf n m 0 present) b) readable lengths conditions epochs → (leader : ℕ)
-    → Surveyed n m (viewsIn (settingOf n m leader present) b) readable lengths conditions epochs
+pub surveyed-any : (Z : Shape) (present : ℕ) (b : Bytes) {readable : ℕ} {lengths conditions epochs : List ℕ}
+    → Surveyed (Z .n) (Z .m) (viewsIn (settingOf Z 0 present) b) readable lengths conditions epochs → (leader : ℕ)
+    → Surveyed (Z .n) (Z .m) (viewsIn (settingOf Z leader present) b) readable lengths conditions epochs
 unfolding viewsIn viewsOf settingOf
-surveyed-any n m present b s leader = s
+surveyed-any Z present b s leader = s

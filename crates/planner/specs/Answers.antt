@@ -6,6 +6,7 @@ use lib.Dec.{eqb}
 use lib.ListN.{length}
 use Rattle.search.specs.Search.{oneIf, listed}
 use Rattle.slices.specs.Parts.{Bytes}
+use Rattle.record.specs.declared.Shape.{Shape}
 use Rattle.image.specs.Refusal.{unlessRefused}
 use Rattle.image.specs.View.{View}
 use Rattle.image.specs.Answers.{Numbered, refused, value}
@@ -37,23 +38,23 @@ unfoldable pub rowOf : View → ReplicaRow
 rowOf v = record { readable = oneIf (v .readable); length = rowLength v; «last_epoch» = rowEpoch v }
 
 unfoldable pub rowsOf : Setting → (ℕ → View) → List ReplicaRow
-rowsOf S W = listed (S .n) (λ c. rowOf (W c))
+rowsOf S W = listed (S .shape .n) (λ c. rowOf (W c))
 
--- the plan and the table of a cluster, of n, m, the leader's number and the present set
-abbrev pub planIn : ℕ → ℕ → ℕ → ℕ → Bytes → Bytes
-planIn n m leading present b = planBytes (settingOf n m leading present) (viewsIn (settingOf n m leading present) b)
+-- the plan and the table of a cluster, of a shape, the leader's number and the present set
+abbrev pub planIn : Shape → ℕ → ℕ → Bytes → Bytes
+planIn Z leading present b = planBytes (settingOf Z leading present) (viewsIn (settingOf Z leading present) b)
 
-abbrev pub rowsIn : ℕ → ℕ → ℕ → ℕ → Bytes → List ReplicaRow
-rowsIn n m leading present b = rowsOf (settingOf n m leading present) (viewsIn (settingOf n m leading present) b)
+abbrev pub rowsIn : Shape → ℕ → ℕ → Bytes → List ReplicaRow
+rowsIn Z leading present b = rowsOf (settingOf Z leading present) (viewsIn (settingOf Z leading present) b)
 
 -- the planner's call with a lent plan and a lent table: its answer
-abbrev pub planCallNumbers : ℕ → ℕ → ℕ → ℕ → Bytes → ℕ → ℕ → Numbered (ℕ × ℕ)
-planCallNumbers n m leading present b plan rows =
-    planNumbered (planRefusal n m leading present b plan rows) (answer (settingOf n m leading present) (viewsIn (settingOf n m leading present) b))
+abbrev pub planCallNumbers : Shape → ℕ → ℕ → Bytes → ℕ → ℕ → Numbered (ℕ × ℕ)
+planCallNumbers Z leading present b plan rows =
+    planNumbered (planRefusal Z leading present b plan rows) (answer (settingOf Z leading present) (viewsIn (settingOf Z leading present) b))
 
 -- what it leaves in the plan and in the table
-abbrev pub planLeft : ℕ → ℕ → ℕ → ℕ → Bytes → Bytes → ℕ → Bytes
-planLeft n m leading present b plan rows = unlessRefused (planRefusal n m leading present b (length plan) rows) (planIn n m leading present b) plan
+abbrev pub planLeft : Shape → ℕ → ℕ → Bytes → Bytes → ℕ → Bytes
+planLeft Z leading present b plan rows = unlessRefused (planRefusal Z leading present b (length plan) rows) (planIn Z leading present b) plan
 
-abbrev pub rowsLeft : ℕ → ℕ → ℕ → ℕ → Bytes → ℕ → List ReplicaRow → List ReplicaRow
-rowsLeft n m leading present b plan rows = unlessRefused (planRefusal n m leading present b plan (length rows)) (rowsIn n m leading present b) rows
+abbrev pub rowsLeft : Shape → ℕ → ℕ → Bytes → ℕ → List ReplicaRow → List ReplicaRow
+rowsLeft Z leading present b plan rows = unlessRefused (planRefusal Z leading present b plan (length rows)) (rowsIn Z leading present b) rows

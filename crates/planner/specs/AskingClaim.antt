@@ -6,6 +6,7 @@ use lib.Dec.{eqb, leb, ltb}
 use lib.ListN.{length}
 use Rattle.search.specs.Search.{oneIf, count}
 use Rattle.slices.specs.Parts.{Bytes}
+use Rattle.record.specs.declared.Shape.{Shape}
 use Rattle.image.specs.Image.{Image}
 use Rattle.image.specs.View.{View, isSize, isSlots, isLost, conditionAt, imageRefusal, readRefusal}
 use Rattle.image.specs.Verdict.{verdictAt}
@@ -23,8 +24,8 @@ pub record AskingClaim : Type 0 where
   pub used : (m : ℕ) (i : Image) (k : ℕ) → imageRefusal m i ≡ 0 → k < m
       → isUsed (conditionAt i k) ≡ (leb 1 (verdictAt m i k) && leb (verdictAt m i k) 4 || eqb (verdictAt m i k) 6)
   -- a present replica whose own image is refused (1 to 7) is unreadable
-  pub readable : (n m leader present : ℕ) (b : Bytes) (c : ℕ) → isSize n ≡ true → isSlots m ≡ true → length b ≡ imageAt m n → c < n
-      → viewsIn (settingOf n m leader present) b c .readable ≡ has present c && eqb (readRefusal (suc c) n m (imagePart m b c)) 0
+  pub readable : (Z : Shape) (leader present : ℕ) (b : Bytes) (c : ℕ) → isSize (Z .n) ≡ true → isSlots (Z .m) ≡ true → length b ≡ imageAt Z (Z .n) → c < Z .n
+      → viewsIn (settingOf Z leader present) b c .readable ≡ has present c && eqb (readRefusal Z (suc c) (imagePart Z b c)) 0
   -- a replica that is asked gives exactly one of the three answers, and no other replica gives one
   pub one-answer : (S : Setting) (W : ℕ → View) (k c : ℕ) → isLost (W c .condition k) ≡ false
       → oneIf (have S W k c) + oneIf (haveFaulty S W k c) + oneIf (dontHave S W k c) ≡ oneIf (answers S W c)
@@ -35,7 +36,7 @@ pub record AskingClaim : Type 0 where
   -- d of n are a majority exactly if they are more than half
   pub majority-is : (n d : ℕ) → leb (majority n) d ≡ ltb n (d + d)
   -- those that did not answer don't-have are n less the don't-haves; the leader is among them, and those that are away or unreadable (02, Eight)
-  pub may-hold : (S : Setting) (W : ℕ → View) (k : ℕ) → count (λ c. not (dontHave S W k c)) (S .n) ≡ S .n - count (dontHave S W k) (S .n)
+  pub may-hold : (S : Setting) (W : ℕ → View) (k : ℕ) → count (λ c. not (dontHave S W k c)) (S .shape .n) ≡ S .shape .n - count (dontHave S W k) (S .shape .n)
   pub leader-may-hold : (S : Setting) (W : ℕ → View) (k : ℕ) → dontHave S W k (S .leader) ≡ false
   pub away-may-hold : (S : Setting) (W : ℕ → View) (k c : ℕ) → W c .readable ≡ false → dontHave S W k c ≡ false
   -- d don't-haves cut exactly if they are half of n or more: a majority, as document 01 has it, or exactly half. For an odd n that is 01's rule

@@ -5,6 +5,7 @@ use lib.Dec.{eqb, leb, ltb}
 use lib.ListN.{length}
 use Rattle.search.specs.Search.{listed}
 use Rattle.slices.specs.Parts.{Bytes}
+use Rattle.record.specs.declared.Shape.{Shape}
 use Rattle.image.specs.Refusal.{refuse, _else_}
 use Rattle.image.specs.View.{Condition, conditionNumber, View, isSize, isReplica, isSlots}
 use Rattle.image.specs.Cluster.{decode, imageAt}
@@ -13,25 +14,28 @@ use Rattle.planner.specs.Rules.{Rule, Keep, Fetch, Truncate, Wait, rule,
 
 -- what is seen of the cluster in a buffer
 unfoldable pub viewsIn : Setting → Bytes → ℕ → View
-viewsIn S b = viewsOf S (decode (S .n) (S .m) b)
+viewsIn S b = viewsOf S (decode (S .shape) b)
 
 -- refusals 1, 2, 3 and 11: what is known of a call before an image is read
-unfoldable pub shapeRefusal : ℕ → ℕ → ℕ → ℕ → ℕ
-shapeRefusal n m present size =
-    refuse 1 (not (isSlots m)) else refuse 2 (not (isSize n)) else refuse 3 (not (eqb size (imageAt m n))) else refuse 11 (not (ltb present (2 ^ n)))
+unfoldable pub shapeRefusal : Shape → ℕ → ℕ → ℕ
+shapeRefusal Z present size =
+    refuse 1 (not (isSlots (Z .m)))
+    else refuse 2 (not (isSize (Z .n)))
+    else refuse 3 (not (eqb size (imageAt Z (Z .n))))
+    else refuse 11 (not (ltb present (2 ^ Z .n)))
 
 -- these, and 12: the refusals of planning, step and run
-unfoldable pub clusterRefusal : ℕ → ℕ → ℕ → ℕ → Bytes → ℕ
-clusterRefusal n m leading present b =
-    shapeRefusal n m present (length b)
-    else refuse 12 (not (isReplica n leading && viewsIn (settingOf n m leading present) b (pred leading) .readable))
+unfoldable pub clusterRefusal : Shape → ℕ → ℕ → Bytes → ℕ
+clusterRefusal Z leading present b =
+    shapeRefusal Z present (length b)
+    else refuse 12 (not (isReplica (Z .n) leading && viewsIn (settingOf Z leading present) b (pred leading) .readable))
 
 -- 13, after all else that applies: the plan has not m bytes, or the table not n rows
-unfoldable pub lentRefusal : ℕ → ℕ → ℕ → ℕ → ℕ → ℕ
-lentRefusal refusal n m plan rows = refusal else refuse 13 (not (eqb plan m && eqb rows n))
+unfoldable pub lentRefusal : ℕ → Shape → ℕ → ℕ → ℕ
+lentRefusal refusal Z plan rows = refusal else refuse 13 (not (eqb plan (Z .m) && eqb rows (Z .n)))
 
-unfoldable pub planRefusal : ℕ → ℕ → ℕ → ℕ → Bytes → ℕ → ℕ → ℕ
-planRefusal n m leading present b plan rows = lentRefusal (clusterRefusal n m leading present b) n m plan rows
+unfoldable pub planRefusal : Shape → ℕ → ℕ → Bytes → ℕ → ℕ → ℕ
+planRefusal Z leading present b plan rows = lentRefusal (clusterRefusal Z leading present b) Z plan rows
 
 -- 0 unused, 1 whole, 2 record to be rewritten
 unfoldable pub keptByte : Condition → ℕ
@@ -52,7 +56,7 @@ planByte S W k =
     0
 
 unfoldable pub planBytes : Setting → (ℕ → View) → Bytes
-planBytes S W = listed (S .m) (planByte S W)
+planBytes S W = listed (S .shape .m) (planByte S W)
 
 -- 01's row for a replica: whether it is readable and present, its log's length and its last epoch, both 0 if not
 unfoldable pub rowLength : View → ℕ

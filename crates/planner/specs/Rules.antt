@@ -49,7 +49,7 @@ isWait Truncate = false
 isWait Wait = true
 
 module _ (S : Setting) (W : ℕ → View) where
-  open Setting S using (n, leader)
+  open Setting S using (shape, leader)
 
   -- c answers: it is readable, present and not the leader
   unfoldable pub answers : ℕ → Bool
@@ -70,13 +70,13 @@ module _ (S : Setting) (W : ℕ → View) where
 
   -- the lowest-numbered replica that has slot k intact; n if none has
   unfoldable pub donor : ℕ → ℕ
-  donor k = lowest (have k) n
+  donor k = lowest (have k) (shape .n)
 
   -- the rules, in their order: fetch, truncate if the don't-haves allow it, wait
   unfoldable pub rule : ℕ → Rule
   rule k =
       cond (isFaulty (W leader .condition k))
-      (cond (ltb (donor k) n) Fetch (cond (mayTruncate n (count (dontHave k) n)) Truncate Wait))
+      (cond (ltb (donor k) (shape .n)) Fetch (cond (mayTruncate (shape .n) (count (dontHave k) (shape .n))) Truncate Wait))
       Keep
 
   -- the lowest truncated slot ends the log; all later ones go with it

@@ -2,13 +2,13 @@
 use Prim.Native.Nat.{ℕ, pred, _/_, _%_, _^_}
 use mathlib.Core.Bool.{Bool}
 use lib.Dec.{eqb}
+use Rattle.record.specs.declared.Shape.{Shape}
 use Rattle.image.specs.View.{View, viewOf}
 use Rattle.image.specs.Cluster.{Cluster}
 
 -- replicas and slots from 0
 pub record Setting : Type 0 where
-  pub n : ℕ
-  pub m : ℕ
+  pub shape : Shape
   pub leader : ℕ
   pub present : ℕ → Bool
 
@@ -16,10 +16,10 @@ pub record Setting : Type 0 where
 unfoldable pub has : ℕ → ℕ → Bool
 has w c = eqb (w / 2 ^ c % 2) 1
 
--- n, m, the leader's number (from 1) and the present set as a word
-unfoldable pub settingOf : ℕ → ℕ → ℕ → ℕ → Setting
-settingOf n m leading present = record { n = n; m = m; leader = pred leading; present = has present }
+-- a shape, the leader's number (from 1) and the present set as a word
+unfoldable pub settingOf : Shape → ℕ → ℕ → Setting
+settingOf Z leading present = record { shape = Z; leader = pred leading; present = has present }
 
 -- what is seen of each replica
 unfoldable pub viewsOf : Setting → Cluster → ℕ → View
-viewsOf S F c = viewOf (S .present c) (S .m) (F c)
+viewsOf S F c = viewOf (S .present c) (S .shape .m) (F c)

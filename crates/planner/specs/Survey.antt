@@ -5,6 +5,7 @@ use mathlib.Core.Bool.{Bool, true, false, cond, not, _&&_}
 use mathlib.Core.List.{List}
 use lib.Dec.{eqb, ltb}
 use lib.ListN.{length, getD, take}
+use Rattle.record.specs.declared.Shape.{Shape}
 use Rattle.image.specs.View.{Condition, Unused, Whole, RecordLost, Faulty, Lost, View}
 use Rattle.image.specs.View.{conditionNumber}
 use Rattle.slices.specs.Parts.{Bytes}
@@ -37,7 +38,7 @@ conditionFrom (suc (suc (suc (suc x)))) = Lost
 
 -- n replicas and their leader, from 0
 unfoldable pub surveySetting : ℕ → ℕ → Setting
-surveySetting n leader = record { n = n; m = 64; leader = leader; present = λ c. true }
+surveySetting n leader = record { shape = record { n = n; m = 64 }; leader = leader; present = λ c. true }
 
 -- what a survey's numbers say, where the leader's log is so long
 unfoldable pub surveyViews : ℕ → ℕ → List ℕ → List ℕ → ℕ → View
@@ -70,19 +71,19 @@ markedByte bytes e l k = cond (ltb k e) (getD bytes k 0) (cond (ltb k l) (cond (
 
 -- a survey is that of the views W, in which the leader is readable
 pub record SurveyOf (S : Setting) (W : ℕ → View) (n leader readable : ℕ) (lengths conditions epochs : List ℕ) : Type 0 where
-  pub n-is : S .n ≡ n
+  pub n-is : S .shape .n ≡ n
   pub leader-is : S .leader ≡ leader
   pub few : n ≤ 7
   pub leader-below : leader < n
-  pub slots-fit : S .m ≤ 64
+  pub slots-fit : S .shape .m ≤ 64
   pub leader-reads : W leader .readable ≡ true
-  pub logs-fit : (c : ℕ) → W c .length ≤ S .m
-  pub surveyed : Surveyed n (S .m) W readable lengths conditions epochs
+  pub logs-fit : (c : ℕ) → W c .length ≤ S .shape .m
+  pub surveyed : Surveyed n (S .shape .m) W readable lengths conditions epochs
 
 -- the plan of the views W
 pub record Planned (S : Setting) (W : ℕ → View) (bytes : List ℕ) (final waiting : ℕ) : Type 0 where
   pub sized : length bytes ≡ 64
-  pub bytes-are : take (S .m) bytes ≡ planBytes S W
+  pub bytes-are : take (S .shape .m) bytes ≡ planBytes S W
   pub end-is : final ≡ end S W
   pub waiting-is : waiting ≡ firstWaiting S W
 
@@ -94,6 +95,6 @@ abbrev pub PlanIs : Setting → (ℕ → View) → Plan → Type 0
 PlanIs S W p = Planned S W (p .bytes) (p .end) (p .waiting)
 
 -- what a call that is not refused begins with: the survey of the cluster, the leader counted from 0, and the plan
-pub record Opened (n m number present : ℕ) (b : Bytes) (leader : ℕ) (s : Survey) (p : Plan) : Type 0 where
-  pub survey-is : SurveyIs (settingOf n m number present) (viewsIn (settingOf n m number present) b) n leader s
-  pub plan-is : PlanIs (settingOf n m number present) (viewsIn (settingOf n m number present) b) p
+pub record Opened (Z : Shape) (number present : ℕ) (b : Bytes) (leader : ℕ) (s : Survey) (p : Plan) : Type 0 where
+  pub survey-is : SurveyIs (settingOf Z number present) (viewsIn (settingOf Z number present) b) (Z .n) leader s
+  pub plan-is : PlanIs (settingOf Z number present) (viewsIn (settingOf Z number present) b) p

@@ -36,5 +36,5 @@ numberRow readable lengths epochs c =
 pub record Outcome (refusal : ℕ) (S : Setting) (W : ℕ → View) (a : PlanAnswer) (count : ℕ) (rows : List ReplicaRow) : Type 0 where
   pub sized : length rows ≡ 7
   pub answer-is : planNumbers a ≡ planNumbered refusal (answer S W)
-  pub count-is : count ≡ cond (eqb refusal 0) (S .n) 0
-  pub rows-are : refusal ≡ 0 → take (S .n) rows ≡ rowsOf S W
+  pub count-is : count ≡ cond (eqb refusal 0) (S .shape .n) 0
+  pub rows-are : refusal ≡ 0 → take (S .shape .n) rows ≡ rowsOf S W

@@ -21,6 +21,7 @@ use decide::Opening;
 use decide::open_cluster;
 use image::MAX_SLOTS;
 use planner::SURVEY_SLOTS;
+use record::Shape;
 use report::Command;
 
 mod command; // command.rt: the command line
@@ -111,15 +112,15 @@ fn report_plan(n: usize, leading: usize, opening: Opening) -> Report
 }
 
 // The plan of a cluster, or the refusal of planning.
-fn report_cluster(cluster: &[u8], n: usize, m: usize, leading: usize, present: u32) -> Report
-    ensures { λ r. ⌜ Prints (clusterReport n m leading present (now (cluster .entry))) (r .bytes) (r .count) ⌝ }
+fn report_cluster(cluster: &[u8], shape: Shape, leading: usize, present: u32) -> Report
+    ensures { λ r. ⌜ Prints (clusterReport shape leading present (now (cluster .entry))) (r .bytes) (r .count) ⌝ }
 {
-    let opening = open_cluster(cluster, n, m, leading, present);
+    let opening = open_cluster(cluster, shape, leading, present);
     let refusal = opening.refusal;
     if refusal != 0 {
         return report_refusal(refusal as u64);
     }
-    report_plan(n, leading, opening)
+    report_plan(shape.n, leading, opening)
 }
 
 // All that is printed for an input.
@@ -140,8 +141,7 @@ pub fn report_of(input: &[u8]) -> Report
     };
     report_cluster(
         &input[COMMAND_SIZE..],
-        n,
-        m,
+        Shape { n, m },
         leading,
         present_word(n, leading, present),
     )

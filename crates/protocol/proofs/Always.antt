@@ -26,7 +26,7 @@ pub record Always (S : Setting) (F₀ F : Cluster) : Type 0 where
   pub finals : steps S (enough S) F ≡ steps S (enough S) F₀
   pub still : next S F₀ ≡ none → F ≡ F₀
 
-module _ (S : Setting) (F₀ : Cluster) (n : S .leader < S .n) where
+module _ (S : Setting) (F₀ : Cluster) (n : S .leader < S .shape .n) where
   -- a store is due: one was at first
   began : (F : Cluster) (s : Store) → Always S F₀ F → next S F ≡ some s → next S F₀ ≡ none → ⊥
   began F s i x z =

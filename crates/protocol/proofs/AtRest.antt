@@ -90,7 +90,7 @@ follower-done S W u c e =
 pub record AtRest (S : Setting) (F : Cluster) : Type 0 where
   pub plan : ReadyPlan S (viewsOf S F)
   pub leader : LeaderDone S (viewsOf S F)
-  pub followers : (c : ℕ) → c < S .n → answers S (viewsOf S F) c ≡ true → FollowerDone S (viewsOf S F) c
+  pub followers : (c : ℕ) → c < S .shape .n → answers S (viewsOf S F) c ≡ true → FollowerDone S (viewsOf S F) c
 
 pub at-rest-facts : (S : Setting) (F : Cluster) (l : ℕ) → answer S (viewsOf S F) ≡ Ready l → next S F ≡ none → AtRest S F
 unfolding next ifReady followersStore due
@@ -101,7 +101,7 @@ at-rest-facts S F l a e =
     record {
       plan = r;
       leader = leader-done S (viewsOf S F) r (or-none-l (leaderStore S (viewsOf S F)) (followersStore S F) z);
-      followers = λ c cn an. follower-done S (viewsOf S F) (unlike S F c) c (rw an at (first-none (due S F) (S .n) f c cn));
+      followers = λ c cn an. follower-done S (viewsOf S F) (unlike S F c) c (rw an at (first-none (due S F) (S .shape .n) f c cn));
     }
 
 -- every readable present replica has every slot of the leader's log whole under the leader's epoch
@@ -110,7 +110,7 @@ pub record Copied (S : Setting) (F : Cluster) (c k : ℕ) : Type 0 where
   pub epochs : viewsOf S F c .epoch k ≡ viewsOf S F (S .leader) .epoch k
   pub slot : WholeSlot (viewsOf S F (S .leader) .epoch k) (F c .records k) (F c .entries k)
 
-pub rest-whole : (S : Setting) (F : Cluster) → AtRest S F → (c k : ℕ) → c < S .n → viewsOf S F c .readable ≡ true → k < viewsOf S F (S .leader) .length → Copied S F c k
+pub rest-whole : (S : Setting) (F : Cluster) → AtRest S F → (c k : ℕ) → c < S .shape .n → viewsOf S F c .readable ≡ true → k < viewsOf S F (S .leader) .length → Copied S F c k
 unfolding viewsOf viewOf conditionAt epochAt answers
 rest-whole S F r c k cn ok h = go (ℕ-discrete c (S .leader))
   where

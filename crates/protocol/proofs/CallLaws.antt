@@ -23,21 +23,21 @@ use Rattle.protocol.specs.CallResult.{refused, callResult, callBytes, ac
 
 -- what a cluster that is not refused has
 pub record Accepted (N : Numbers) (b : Bytes) : Type 0 where
-  pub slots : isSlots (N .m) ≡ true
-  pub sizes : isSize (N .n) ≡ true
-  pub size : length b ≡ imageAt (N .m) (N .n)
-  pub low : named N .leader < N .n
+  pub slots : isSlots (N .shape .m) ≡ true
+  pub sizes : isSize (N .shape .n) ≡ true
+  pub size : length b ≡ imageAt (N .shape) (N .shape .n)
+  pub low : named N .leader < N .shape .n
   pub readable : viewsIn (named N) b (named N .leader) .readable ≡ true
 
 pub accepted : (N : Numbers) (b : Bytes) → refusalIn N b ≡ 0 → Accepted N b
 unfolding settingOf
 accepted N b e =
-    let z = cluster-shaped (N .n) (N .m) (N .leader) (N .present) b e in
-    let l = leader-accepted (N .n) (N .m) (N .leader) (N .present) b e in
+    let z = cluster-shaped (N .shape) (N .leader) (N .present) b e in
+    let l = leader-accepted (N .shape) (N .leader) (N .present) b e in
     record {
-      slots = shaped-slots (N .n) (N .m) (N .present) (length b) z;
-      sizes = shaped-size (N .n) (N .m) (N .present) (length b) z;
-      size = shaped-bytes (N .n) (N .m) (N .present) (length b) z;
+      slots = shaped-slots (N .shape) (N .present) (length b) z;
+      sizes = shaped-size (N .shape) (N .present) (length b) z;
+      size = shaped-bytes (N .shape) (N .present) (length b) z;
       low = l .0;
       readable = l .1;
     }
@@ -81,7 +81,7 @@ module _ (N : Numbers) (b : Bytes) where
   -- planning with the buffers that it asks for is refused as the cluster is
   pub planning-refusal : refusalOf N (planning N) b ≡ refusalIn N b
   unfolding refusalOf planRefusal lentRefusal
-  planning-refusal = else-none (refusalIn N b) _ (refuse-off 13 (rw (eq-eqb (N .m) (N .m) refl, eq-eqb (N .n) (N .n) refl)))
+  planning-refusal = else-none (refusalIn N b) _ (refuse-off 13 (rw (eq-eqb (N .shape .m) (N .shape .m) refl, eq-eqb (N .shape .n) (N .shape .n) refl)))
 
   module _ (h : refusalIn N b ≡ 0 → ⊥) where
     pub planning-refused : callResult N (planning N) b ≡ refused (refusalIn N b)

@@ -25,9 +25,9 @@ use Rattle.protocol.proofs.Reach.{Torn, torn}
 use Rattle.protocol.proofs.Sources.{stored-source}
 
 pub record Consistent (S : Setting) (pay : ℕ → ℕ → Bytes) (prev : ℕ → ℕ → ℕ) (F : Cluster) : Type 0 where
-  pub payloads : (c k : ℕ) (p : Bytes) → c < S .n → viewsOf S F c .readable ≡ true → k < viewsOf S F c .length
+  pub payloads : (c k : ℕ) (p : Bytes) → c < S .shape .n → viewsOf S F c .readable ≡ true → k < viewsOf S F c .length
       → F c .entries k ≡ intact (viewsOf S F c .epoch k) p → p ≡ pay k (viewsOf S F c .epoch k)
-  pub chain : (c k : ℕ) → c < S .n → viewsOf S F c .readable ≡ true → suc k < viewsOf S F c .length
+  pub chain : (c k : ℕ) → c < S .shape .n → viewsOf S F c .readable ≡ true → suc k < viewsOf S F c .length
       → viewsOf S F c .epoch k ≡ prev (suc k) (viewsOf S F c .epoch (suc k))
 
 -- a log's epochs, linked below l
@@ -40,7 +40,7 @@ linked-same prev l a b h e k x = rw (e k (omega arith), e (suc k) x) (h k x)
 
 module _ (S : Setting) (pay : ℕ → ℕ → Bytes) (prev : ℕ → ℕ → ℕ) where
   off-chain : (F G : Cluster) (t : ℕ) → Off t F G → Consistent S pay prev F → Linked prev (viewsOf S G t .length) (viewsOf S G t)
-      → (c k : ℕ) → c < S .n → viewsOf S F c .readable ≡ true → suc k < viewsOf S G c .length → viewsOf S G c .epoch k ≡ prev (suc k) (viewsOf S G c .epoch (suc k))
+      → (c k : ℕ) → c < S .shape .n → viewsOf S F c .readable ≡ true → suc k < viewsOf S G c .length → viewsOf S G c .epoch k ≡ prev (suc k) (viewsOf S G c .epoch (suc k))
   unfolding Linked
   off-chain F G t off i l c k cn ok h = go (ℕ-discrete c t)
     where
@@ -48,8 +48,8 @@ module _ (S : Setting) (pay : ℕ → ℕ → Bytes) (prev : ℕ → ℕ → ℕ
       go (yes q) = rw q (l k (rw q at h))
       go (no q) = let e = off-views S F G t off c q in rw e (i .chain c k cn ok (rw e at h))
 
-  move-chain : (F G : Cluster) → S .leader < S .n → ReadyPlan S (viewsOf S F) → Move S F G → Consistent S pay prev F
-      → (c k : ℕ) → c < S .n → viewsOf S F c .readable ≡ true → suc k < viewsOf S G c .length → viewsOf S G c .epoch k ≡ prev (suc k) (viewsOf S G c .epoch (suc k))
+  move-chain : (F G : Cluster) → S .leader < S .shape .n → ReadyPlan S (viewsOf S F) → Move S F G → Consistent S pay prev F
+      → (c k : ℕ) → c < S .shape .n → viewsOf S F c .readable ≡ true → suc k < viewsOf S G c .length → viewsOf S G c .epoch k ≡ prev (suc k) (viewsOf S G c .epoch (suc k))
   unfolding Linked
   move-chain F G n r (leader-blanked l off t h) i = off-chain F G (S .leader) off i (rw (t .is) (linked-same prev l (viewsOf S F (S .leader)) (viewsOf S G (S .leader)) (λ k x. i .chain (S .leader) k n (r .leader) (omega (arith, t .was))) (t .epochs)))
   move-chain F G n r (leader-mended k off t h full x y u) i =
@@ -67,7 +67,7 @@ module _ (S : Setting) (pay : ℕ → ℕ → Bytes) (prev : ℕ → ℕ → ℕ
           rw (t .epochs k (omega arith), q, t .epoch, below-differing S (viewsOf S F) c k (omega (arith, full)) .epochs) (rw q at (i .chain (S .leader) k n (r .leader) (omega (arith, h, q))))
       go k x (no q) = rw (t .epochs k (omega arith), t .epochs (suc k) (omega arith)) (i .chain c k cn (answers-readable S (viewsOf S F) c an) (omega arith))
 
-  pub stored-consistent : (F : Cluster) (s : Store) → S .leader < S .n → ReadyPlan S (viewsOf S F) → Due S F s → Consistent S pay prev F → Consistent S pay prev (afterStore s F)
+  pub stored-consistent : (F : Cluster) (s : Store) → S .leader < S .shape .n → ReadyPlan S (viewsOf S F) → Due S F s → Consistent S pay prev F → Consistent S pay prev (afterStore s F)
   stored-consistent F s n r u i =
       let v = moved S F s r u in
       let p = same-plan S F (afterStore s F) r v in

@@ -19,7 +19,7 @@ use Rattle.planner.specs.Setting.{Setting}
 use Rattle.planner.specs.Rules.{isFaulty, isRecordLost}
 
 abbrev pub view : Setting → ℕ → Image → View
-view S c i = viewOf (S .present c) (S .m) i
+view S c i = viewOf (S .present c) (S .shape .m) i
 
 -- ---- what conditions tell
 pub record GoodAt (r : Record) : Type 0 where
@@ -100,20 +100,20 @@ pub view-ext : (a b : View) → a .readable ≡ b .readable → a .length ≡ b 
 view-ext a b p q r s = λ i. record { readable = p i; length = q i; condition = λ j. r j i; epoch = λ j. s j i }
 
 module _ (S : Setting) (c : ℕ) (i : Image) (ok : view S c i .readable ≡ true) where
-  sound : Sound (S .m) i
-  sound = readable-sound (S .present c) (S .m) i ok
+  sound : Sound (S .shape .m) i
+  sound = readable-sound (S .present c) (S .shape .m) i ok
 
-  readable : (j : Image) → Sound (S .m) j → view S c j .readable ≡ true
-  readable j s = readable-intro (S .present c) (S .m) j (readable-present (S .present c) (S .m) i ok) s
+  readable : (j : Image) → Sound (S .shape .m) j → view S c j .readable ≡ true
+  readable j s = readable-intro (S .present c) (S .shape .m) j (readable-present (S .present c) (S .shape .m) i ok) s
 
   pub blank-effect : (l : ℕ) → view S c i .length ≡ suc l → Blanked l (view S c i) (view S c (setRecord i l blank))
   unfolding viewOf setRecord
   blank-effect l h = record {
-    readable = readable (setRecord i l blank) (blanked-sound (S .m) i l sound h);
+    readable = readable (setRecord i l blank) (blanked-sound (S .shape .m) i l sound h);
     was = h;
-    is = blanked-length (S .m) i l sound h;
-    conditions = λ j b. record-condition-other (S .m) i l blank j (omega arith);
-    epochs = λ j b. record-epoch-other (S .m) i l blank j (omega arith);
+    is = blanked-length (S .shape .m) i l sound h;
+    conditions = λ j b. record-condition-other (S .shape .m) i l blank j (omega arith);
+    epochs = λ j b. record-epoch-other (S .shape .m) i l blank j (omega arith);
   }
 
   -- a faulty slot gets an intact entry of its epoch
@@ -125,11 +125,11 @@ module _ (S : Setting) (c : ℕ) (i : Image) (ok : view S c i .readable ≡ true
       let same : epochOf (i .records k) x ≡ epochAt i k = rw (g .is) in
       let w : condition (i .records k) x ≡ Whole = rw (g .is) (whole-beside (g .epoch) p) in
       record {
-        readable = readable (setEntry i k x) (entry-sound (S .m) i k x sound (ap isLost w) same);
-        lengths = entry-length (S .m) i k x;
-        whole = entry-condition (S .m) i k x ∙ w;
-        conditions = entry-condition-other (S .m) i k x;
-        epochs = entry-epoch (S .m) i k x same;
+        readable = readable (setEntry i k x) (entry-sound (S .shape .m) i k x sound (ap isLost w) same);
+        lengths = entry-length (S .shape .m) i k x;
+        whole = entry-condition (S .shape .m) i k x ∙ w;
+        conditions = entry-condition-other (S .shape .m) i k x;
+        epochs = entry-epoch (S .shape .m) i k x same;
       }
 
   -- a slot whose record is lost gets it back
@@ -141,29 +141,29 @@ module _ (S : Setting) (c : ℕ) (i : Image) (ok : view S c i .readable ≡ true
       let w : condition (good e) (i .entries k) ≡ Whole = ap (λ (x : Entry). condition (good e) x) (y .is) ∙ whole-beside e (y .payload) in
       let u = lost-used (i .records k) (i .entries k) h in
       record {
-        readable = readable (setRecord i k (good e)) (mended-sound (S .m) i k e sound u refl (ap isLost w));
-        lengths = mended-length (S .m) i k e sound u refl;
-        whole = record-condition (S .m) i k (good e) ∙ w;
-        conditions = record-condition-other (S .m) i k (good e);
-        epochs = mended-epoch (S .m) i k e sound u refl;
+        readable = readable (setRecord i k (good e)) (mended-sound (S .shape .m) i k e sound u refl (ap isLost w));
+        lengths = mended-length (S .shape .m) i k e sound u refl;
+        whole = record-condition (S .shape .m) i k (good e) ∙ w;
+        conditions = record-condition-other (S .shape .m) i k (good e);
+        epochs = mended-epoch (S .shape .m) i k e sound u refl;
       }
 
   -- the first unused slot gets a record beside an intact entry of its epoch
-  pub append-effect : (e : ℕ) (p : Bytes) → view S c i .length < S .m → i .entries (view S c i .length) ≡ intact e p
+  pub append-effect : (e : ℕ) (p : Bytes) → view S c i .length < S .shape .m → i .entries (view S c i .length) ≡ intact e p
       → ((j : ℕ) → suc j ≡ view S c i .length → view S c i .epoch j ≤ e)
       → Appended (view S c i .length) e (view S c i) (view S c (setRecord i (view S c i .length) (good e)))
   unfolding viewOf setRecord isLost epochOf
   append-effect e p room x up =
-      let l = logLength (S .m) i in
+      let l = logLength (S .shape .m) i in
       let w : condition (good e) (i .entries l) ≡ Whole = ap (λ (y : Entry). condition (good e) y) x ∙ whole-beside e p in
       record {
-        readable = readable (setRecord i l (good e)) (appended-sound (S .m) i l e sound refl room (ap isLost w) up);
+        readable = readable (setRecord i l (good e)) (appended-sound (S .shape .m) i l e sound refl room (ap isLost w) up);
         was = refl;
-        is = appended-length (S .m) i l e sound refl room;
-        whole = record-condition (S .m) i l (good e) ∙ w;
-        conditions = λ j h. record-condition-other (S .m) i l (good e) j (omega arith);
-        epoch = record-epoch (S .m) i l (good e);
-        epochs = λ j h. record-epoch-other (S .m) i l (good e) j (omega arith);
+        is = appended-length (S .shape .m) i l e sound refl room;
+        whole = record-condition (S .shape .m) i l (good e) ∙ w;
+        conditions = λ j h. record-condition-other (S .shape .m) i l (good e) j (omega arith);
+        epoch = record-epoch (S .shape .m) i l (good e);
+        epochs = λ j h. record-epoch-other (S .shape .m) i l (good e) j (omega arith);
       }
 
   -- an entry behind the log, or a broken one at a faulty slot: the view stays
@@ -172,14 +172,14 @@ module _ (S : Setting) (c : ℕ) (i : Image) (ok : view S c i .readable ≡ true
   unfolding viewOf setEntry logLength
   still k x e f l =
       view-ext (view S c (setEntry i k x)) (view S c i)
-      (readable (setEntry i k x) (entry-sound (S .m) i k x sound (ap isLost e ∙ l) f) ∙ sym ok)
+      (readable (setEntry i k x) (entry-sound (S .shape .m) i k x sound (ap isLost e ∙ l) f) ∙ sym ok)
       refl
       (λ j. same j (ℕ-discrete j k))
-      (entry-epoch (S .m) i k x f)
+      (entry-epoch (S .shape .m) i k x f)
     where
       same : (j : ℕ) → Dec (j ≡ k) → conditionAt (setEntry i k x) j ≡ conditionAt i j
-      same j (yes q) = rw q (entry-condition (S .m) i k x ∙ e)
-      same j (no q) = entry-condition-other (S .m) i k x j q
+      same j (yes q) = rw q (entry-condition (S .shape .m) i k x ∙ e)
+      same j (no q) = entry-condition-other (S .shape .m) i k x j q
 
   pub torn-effect : (k : ℕ) (b : Bytes) → isFaulty (view S c i .condition k) ≡ true → view S c (setEntry i k (broken b)) ≡ view S c i
   unfolding viewOf conditionAt epochAt epochOf condition isLost
@@ -189,6 +189,6 @@ module _ (S : Setting) (c : ℕ) (i : Image) (ok : view S c i .readable ≡ true
       still k (broken b) (rw (g .is) (sym (rw (g .is) at f))) (rw (g .is)) (ap isLost f)
 
   -- behind the log any entry may stand
-  pub fill-effect : (k : ℕ) (x : Entry) → view S c i .length ≤ k → k < S .m → view S c (setEntry i k x) ≡ view S c i
+  pub fill-effect : (k : ℕ) (x : Entry) → view S c i .length ≤ k → k < S .shape .m → view S c (setEntry i k x) ≡ view S c i
   unfolding viewOf conditionAt epochAt epochOf condition isLost
   fill-effect k x a b = still k x (rw (sound .tail k a b)) (rw (sound .tail k a b)) (rw (sound .tail k a b))

@@ -18,19 +18,19 @@ use Rattle.protocol.proofs.ChainLaws.{or-elim, below-elim, below-none}
 use Rattle.protocol.proofs.LeaderDue.{LeaderDone}
 
 pub data FollowerDue (S : Setting) (F : Cluster) : Store → Type 0 where
-  follower-blank : (c : ℕ) → LeaderDone S (viewsOf S F) → c < S .n → answers S (viewsOf S F) c ≡ true
+  follower-blank : (c : ℕ) → LeaderDone S (viewsOf S F) → c < S .shape .n → answers S (viewsOf S F) c ≡ true
       → (l : ℕ) → viewsOf S F c .length ≡ suc l → firstDiffering S (viewsOf S F) c ≤ l → FollowerDue S F (storeBlank c l)
-  follower-mend : (c : ℕ) → LeaderDone S (viewsOf S F) → c < S .n → answers S (viewsOf S F) c ≡ true → firstDiffering S (viewsOf S F) c ≡ viewsOf S F c .length
+  follower-mend : (c : ℕ) → LeaderDone S (viewsOf S F) → c < S .shape .n → answers S (viewsOf S F) c ≡ true → firstDiffering S (viewsOf S F) c ≡ viewsOf S F c .length
       → (k : ℕ) → k < firstDiffering S (viewsOf S F) c → isFaulty (viewsOf S F c .condition k) ≡ true → FollowerDue S F (storeEntry c k (S .leader))
-  follower-write : (c : ℕ) → LeaderDone S (viewsOf S F) → c < S .n → answers S (viewsOf S F) c ≡ true → firstDiffering S (viewsOf S F) c ≡ viewsOf S F c .length
+  follower-write : (c : ℕ) → LeaderDone S (viewsOf S F) → c < S .shape .n → answers S (viewsOf S F) c ≡ true → firstDiffering S (viewsOf S F) c ≡ viewsOf S F c .length
       → (k : ℕ) → k < firstDiffering S (viewsOf S F) c → isRecordLost (viewsOf S F c .condition k) ≡ true → FollowerDue S F (storeRecord c k (viewsOf S F c .epoch k))
-  follower-fill : (c : ℕ) → LeaderDone S (viewsOf S F) → c < S .n → answers S (viewsOf S F) c ≡ true → firstDiffering S (viewsOf S F) c ≡ viewsOf S F c .length
+  follower-fill : (c : ℕ) → LeaderDone S (viewsOf S F) → c < S .shape .n → answers S (viewsOf S F) c ≡ true → firstDiffering S (viewsOf S F) c ≡ viewsOf S F c .length
       → viewsOf S F c .length < viewsOf S F (S .leader) .length → unlike S F c ≡ true → FollowerDue S F (storeEntry c (viewsOf S F c .length) (S .leader))
-  follower-append : (c : ℕ) → LeaderDone S (viewsOf S F) → c < S .n → answers S (viewsOf S F) c ≡ true → firstDiffering S (viewsOf S F) c ≡ viewsOf S F c .length
+  follower-append : (c : ℕ) → LeaderDone S (viewsOf S F) → c < S .shape .n → answers S (viewsOf S F) c ≡ true → firstDiffering S (viewsOf S F) c ≡ viewsOf S F c .length
       → viewsOf S F c .length < viewsOf S F (S .leader) .length → unlike S F c ≡ false
       → FollowerDue S F (storeRecord c (viewsOf S F c .length) (viewsOf S F (S .leader) .epoch (viewsOf S F c .length)))
 
-follower-due : (S : Setting) (F : Cluster) (c : ℕ) (s : Store) → LeaderDone S (viewsOf S F) → c < S .n → answers S (viewsOf S F) c ≡ true
+follower-due : (S : Setting) (F : Cluster) (c : ℕ) (s : Store) → LeaderDone S (viewsOf S F) → c < S .shape .n → answers S (viewsOf S F) c ≡ true
     → followerStore S (viewsOf S F) (unlike S F c) c ≡ some s → FollowerDue S F s
 unfolding followerStore firstDiffering
 follower-due S F c s ld cn an e =
@@ -64,16 +64,16 @@ follower-due S F c s ld cn an e =
 
 pub followers-due : (S : Setting) (F : Cluster) (s : Store) → LeaderDone S (viewsOf S F) → followersStore S F ≡ some s → FollowerDue S F s
 unfolding followersStore firstOf due
-followers-due S F s ld e = go (ltb first (S .n)) refl e
+followers-due S F s ld e = go (ltb first (S .shape .n)) refl e
   where
     first : ℕ
-    first = lowest (λ c. isSome (due S F c)) (S .n)
+    first = lowest (λ c. isSome (due S F c)) (S .shape .n)
 
-    at-first : first < S .n → (a : Bool) → answers S (viewsOf S F) first ≡ a
+    at-first : first < S .shape .n → (a : Bool) → answers S (viewsOf S F) first ≡ a
         → cond a (followerStore S (viewsOf S F) (unlike S F first) first) none ≡ some s → FollowerDue S F s
     at-first h true p e = follower-due S F first s ld h p e
     at-first h false p e = absurd (let z : _≡_ {A = ℕ} 0 1 = cc in omega arith)
 
-    go : (v : Bool) → ltb first (S .n) ≡ v → cond v (due S F first) none ≡ some s → FollowerDue S F s
-    go true p e = at-first (ltb-true first (S .n) p) (answers S (viewsOf S F) first) refl e
+    go : (v : Bool) → ltb first (S .shape .n) ≡ v → cond v (due S F first) none ≡ some s → FollowerDue S F s
+    go true p e = at-first (ltb-true first (S .shape .n) p) (answers S (viewsOf S F) first) refl e
     go false p e = absurd (let z : _≡_ {A = ℕ} 0 1 = cc in omega arith)

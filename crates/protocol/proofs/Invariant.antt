@@ -24,7 +24,8 @@ use Rattle.protocol.proofs.Reach.{Torn, Reach, reach-keeps}
 use Rattle.protocol.proofs.TornLaw.{torn-law}
 use Rattle.protocol.proofs.Keeps.{stored-entry, torn-entry}
 use Rattle.protocol.proofs.Consistency.{Consistent, stored-consistent, torn-consistent}
-use Rattle.protocol.proofs.NoTruncation.{Holding, differing-above, end-above}
+use Rattle.protocol.proofs.Quorum.{Quorum, end-above}
+use Rattle.protocol.proofs.HoldingLaws.{Holding, differing-above, holding-quorum}
 
 -- what a holder has
 pub record Holder (S : Setting) (F₀ F : Cluster) (K e c : ℕ) : Type 0 where
@@ -33,7 +34,7 @@ pub record Holder (S : Setting) (F₀ F : Cluster) (K e c : ℕ) : Type 0 where
 
 pub record Inv (S : Setting) (pay : ℕ → ℕ → Bytes) (prev : ℕ → ℕ → ℕ) (hold : ℕ → Bool) (K e : ℕ) (F₀ F : Cluster) : Type 0 where
   pub consistent : Consistent S pay prev F
-  pub holders : (c : ℕ) → c < S .n → hold c ≡ true → viewsOf S F c .readable ≡ true → Holder S F₀ F K e c
+  pub holders : (c : ℕ) → c < S .shape .n → hold c ≡ true → viewsOf S F c .readable ≡ true → Holder S F₀ F K e c
 
 -- ---- the slot stays used through a store
 off-holding : (S : Setting) (F G : Cluster) (t K e : ℕ) → Off t F G → (c : ℕ) → Holding K e (viewsOf S F c) → (c ≡ t → Holding K e (viewsOf S G t)) → Holding K e (viewsOf S G c)
@@ -52,7 +53,7 @@ mended-holding k K e a b t x = record { within = omega (arith, t .lengths, x .wi
 appended-holding : (l v K e : ℕ) (a b : View) → Appended l v a b → Holding K e a → Holding K e b
 appended-holding l v K e a b t x = record { within = omega (arith, t .is, t .was, x .within); epoch = t .epochs K (omega (arith, t .was, x .within)) ∙ x .epoch }
 
-move-holding : (S : Setting) (F G : Cluster) (K e : ℕ) → K < end S (viewsOf S F) → ((c : ℕ) → c < S .n → viewsOf S F c .readable ≡ true → Holding K e (viewsOf S F c) → K < firstDiffering S (viewsOf S F) c)
+move-holding : (S : Setting) (F G : Cluster) (K e : ℕ) → K < end S (viewsOf S F) → ((c : ℕ) → c < S .shape .n → viewsOf S F c .readable ≡ true → Holding K e (viewsOf S F c) → K < firstDiffering S (viewsOf S F) c)
     → Move S F G → (c : ℕ) → Holding K e (viewsOf S F c) → Holding K e (viewsOf S G c)
 move-holding S F G K e above kept (leader-blanked l off t h) c x =
     off-holding S F G (S .leader) K e off c x (λ q. blanked-holding l K e (viewsOf S F (S .leader)) (viewsOf S G (S .leader)) t (omega arith) (rw q at x))
@@ -67,14 +68,19 @@ move-holding S F G K e above kept (follower-appended d ld cn an off t full h u) 
     off-holding S F G d K e off c x (λ q. appended-holding (viewsOf S F d .length) (viewsOf S F (S .leader) .epoch (viewsOf S F d .length)) K e (viewsOf S F d) (viewsOf S G d) t (rw q at x))
 
 module _ (S : Setting) (pay : ℕ → ℕ → Bytes) (prev : ℕ → ℕ → ℕ) (hold : ℕ → Bool) (K e : ℕ) (F₀ : Cluster)
-    (n : S .leader < S .n) (many : majority (S .n) ≤ count hold (S .n)) (top : hold (S .leader) ≡ true) where
+    (n : S .leader < S .shape .n) (many : majority (S .shape .n) ≤ count hold (S .shape .n)) (top : hold (S .leader) ≡ true) where
+  -- who keeps the slot: those that hold it, with the leader among them
+  pub inv-quorum : (F : Cluster) → Inv S pay prev hold K e F₀ F → viewsOf S F (S .leader) .readable ≡ true → (j : ℕ) → j ≤ K → Quorum S (viewsOf S F) hold j
+  inv-quorum F i ok =
+      holding-quorum S pay prev F (i .consistent) K e n ok (i .holders (S .leader) n top ok .used) hold many (λ c cn h r. i .holders c cn h r .used)
+
   pub stored-inv : (F : Cluster) (s : Store) → Inv S pay prev hold K e F₀ F → next S F ≡ some s → Inv S pay prev hold K e F₀ (afterStore s F)
   stored-inv F s i x =
       let o = due-facts S F s x in
       let v = moved S F s (o .plan) (o .is-due) in
       let p = same-plan S F (afterStore s F) (o .plan) v in
       let leader = i .holders (S .leader) n top (o .plan .leader) .used in
-      let above = end-above S pay prev F (i .consistent) K e n (o .plan .leader) leader hold many (λ c cn h r. i .holders c cn h r .used) in
+      let above = end-above S (viewsOf S F) hold K (leader .within) (inv-quorum F i (o .plan .leader)) in
       record {
         consistent = stored-consistent S pay prev F s n (o .plan) (o .is-due) (i .consistent);
         holders = λ c cn h r.

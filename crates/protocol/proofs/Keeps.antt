@@ -37,10 +37,10 @@ torn-off s F G (torn {c} {k} {d} b) j q = put-other F c (setEntry (F c) k (broke
 
 -- the replica that a store is made on
 pub record Target (S : Setting) (F : Cluster) (c : ℕ) : Type 0 where
-  pub below : c < S .n
+  pub below : c < S .shape .n
   pub ok : viewsOf S F c .readable ≡ true
 
-leader-target : (S : Setting) (F : Cluster) (s : Store) → S .leader < S .n → ReadyPlan S (viewsOf S F) → LeaderDue S F s → Target S F (storeReplica s)
+leader-target : (S : Setting) (F : Cluster) (s : Store) → S .leader < S .shape .n → ReadyPlan S (viewsOf S F) → LeaderDue S F s → Target S F (storeReplica s)
 unfolding storeReplica
 leader-target S F s n r (leader-blank l h e) = record { below = n; ok = r .leader }
 leader-target S F s n r (leader-fetch k h full e) = record { below = n; ok = r .leader }
@@ -54,7 +54,7 @@ follower-target S F s (follower-write c ld cn an full k h e) = record { below = 
 follower-target S F s (follower-fill c ld cn an full h e) = record { below = cn; ok = answers-readable S (viewsOf S F) c an }
 follower-target S F s (follower-append c ld cn an full h e) = record { below = cn; ok = answers-readable S (viewsOf S F) c an }
 
-pub due-target : (S : Setting) (F : Cluster) (s : Store) → S .leader < S .n → ReadyPlan S (viewsOf S F) → Due S F s → Target S F (storeReplica s)
+pub due-target : (S : Setting) (F : Cluster) (s : Store) → S .leader < S .shape .n → ReadyPlan S (viewsOf S F) → Due S F s → Target S F (storeReplica s)
 due-target S F s n r (by-leader e d) = leader-target S F s n r d
 due-target S F s n r (by-follower e f d) = follower-target S F s d
 
@@ -119,13 +119,13 @@ pub torn-entry : (S : Setting) (F G : Cluster) (s : Store) → Due S F s → Tor
 torn-entry S F G s u (torn {c = d} {k = j} {d = a} b) c k q h e = copy-entries F d j (broken b) c k (λ x y. no-hole S F d j q (rw (← x, ← y) h) (rw (← x, ← y) e) (copy-hole S F d j a u))
 
 -- ---- a store lies in the cluster, and a record is written only with the epoch of an intact entry
-leader-slot : (S : Setting) (F : Cluster) (s : Store) → LeaderDue S F s → storeSlot s < S .m
+leader-slot : (S : Setting) (F : Cluster) (s : Store) → LeaderDue S F s → storeSlot s < S .shape .m
 unfolding storeSlot
 leader-slot S F s (leader-blank l h e) = omega (arith, h, leader-fits S F (S .leader))
 leader-slot S F s (leader-fetch k h full e) = omega (arith, full, leader-fits S F (S .leader))
 leader-slot S F s (leader-write k h full e) = omega (arith, full, leader-fits S F (S .leader))
 
-follower-slot : (S : Setting) (F : Cluster) (s : Store) → FollowerDue S F s → storeSlot s < S .m
+follower-slot : (S : Setting) (F : Cluster) (s : Store) → FollowerDue S F s → storeSlot s < S .shape .m
 unfolding storeSlot
 follower-slot S F s (follower-blank c ld cn an l h e) = omega (arith, h, leader-fits S F c)
 follower-slot S F s (follower-mend c ld cn an full k h e) = omega (arith, full, leader-fits S F c)
@@ -133,18 +133,18 @@ follower-slot S F s (follower-write c ld cn an full k h e) = omega (arith, full,
 follower-slot S F s (follower-fill c ld cn an full h e) = omega (arith, h, leader-fits S F (S .leader))
 follower-slot S F s (follower-append c ld cn an full h e) = omega (arith, h, leader-fits S F (S .leader))
 
-pub due-slot : (S : Setting) (F : Cluster) (s : Store) → Due S F s → storeSlot s < S .m
+pub due-slot : (S : Setting) (F : Cluster) (s : Store) → Due S F s → storeSlot s < S .shape .m
 due-slot S F s (by-leader e d) = leader-slot S F s d
 due-slot S F s (by-follower e f d) = follower-slot S F s d
 
-leader-donor : (S : Setting) (F : Cluster) (c k d : ℕ) → LeaderDue S F (storeEntry c k d) → d < S .n
+leader-donor : (S : Setting) (F : Cluster) (c k d : ℕ) → LeaderDue S F (storeEntry c k d) → d < S .shape .n
 leader-donor S F c k d (leader-fetch j h full e) = fetch-facts S (viewsOf S F) k e .below
 
-follower-donor : (S : Setting) (F : Cluster) (c k d : ℕ) → S .leader < S .n → FollowerDue S F (storeEntry c k d) → d < S .n
+follower-donor : (S : Setting) (F : Cluster) (c k d : ℕ) → S .leader < S .shape .n → FollowerDue S F (storeEntry c k d) → d < S .shape .n
 follower-donor S F c k d n (follower-mend c′ ld cn an full j h e) = n
 follower-donor S F c k d n (follower-fill c′ ld cn an full h e) = n
 
-pub due-donor : (S : Setting) (F : Cluster) (c k d : ℕ) → S .leader < S .n → Due S F (storeEntry c k d) → d < S .n
+pub due-donor : (S : Setting) (F : Cluster) (c k d : ℕ) → S .leader < S .shape .n → Due S F (storeEntry c k d) → d < S .shape .n
 due-donor S F c k d n (by-leader e u) = leader-donor S F c k d u
 due-donor S F c k d n (by-follower e f u) = follower-donor S F c k d n u
 

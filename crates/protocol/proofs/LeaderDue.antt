@@ -25,7 +25,7 @@ pub record LeaderDone (S : Setting) (W : ℕ → View) : Type 0 where
 -- a slot that is neither fetched, truncated nor waiting is not faulty
 rule-keep : (S : Setting) (W : ℕ → View) (k : ℕ) → isFetch (rule S W k) ≡ false → isTruncate (rule S W k) ≡ false → isWait (rule S W k) ≡ false → isFaulty (W (S .leader) .condition k) ≡ false
 unfolding rule isFetch isTruncate isWait
-rule-keep S W k f t w = go (isFaulty (W (S .leader) .condition k)) (ltb (donor S W k) (S .n)) (mayTruncate (S .n) (count (dontHave S W k) (S .n))) f t w
+rule-keep S W k f t w = go (isFaulty (W (S .leader) .condition k)) (ltb (donor S W k) (S .shape .n)) (mayTruncate (S .shape .n) (count (dontHave S W k) (S .shape .n))) f t w
   where
     go : (a b d : Bool) → isFetch (cond a (cond b Fetch (cond d Truncate Wait)) Keep) ≡ false → isTruncate (cond a (cond b Fetch (cond d Truncate Wait)) Keep) ≡ false
         → isWait (cond a (cond b Fetch (cond d Truncate Wait)) Keep) ≡ false → a ≡ false

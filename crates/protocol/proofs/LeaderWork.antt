@@ -16,9 +16,9 @@ use Rattle.protocol.proofs.Slots.{leader-whole}
 use Rattle.protocol.proofs.Moves.{isComplete}
 use Rattle.protocol.proofs.Work.{incomplete, leaderWork, weight, work, weight-bound, weight-leader, weight-busy}
 
-pub leader-falls : (S : Setting) (F G : Cluster) → S .leader < S .n → leaderWork S (viewsOf S G) < leaderWork S (viewsOf S F) → work S G < work S F
+pub leader-falls : (S : Setting) (F G : Cluster) → S .leader < S .shape .n → leaderWork S (viewsOf S G) < leaderWork S (viewsOf S F) → work S G < work S F
 unfolding work
-leader-falls S F G ok h = sum-lt (weight S G) (weight S F) (S .n) (S .leader) ok (λ c l. go c (ℕ-discrete c (S .leader))) (rw (weight-leader S F, weight-leader S G) h)
+leader-falls S F G ok h = sum-lt (weight S G) (weight S F) (S .shape .n) (S .leader) ok (λ c l. go c (ℕ-discrete c (S .leader))) (rw (weight-leader S F, weight-leader S G) h)
   where
     go : (c : ℕ) → Dec (c ≡ S .leader) → weight S G c ≤ weight S F c
     go c (yes q) = rw (q, weight-leader S F, weight-leader S G) (omega arith)

@@ -19,10 +19,12 @@ pub mod Runs
 pub mod Keeps
 pub mod Sources
 pub mod Consistency
-pub mod NoTruncation
+pub mod Quorum
+pub mod HoldingLaws
 pub mod Invariant
 pub mod Always
 pub mod AtRest
+pub mod FirstLaws
 pub mod StepLaws
 pub mod UnlikeLaws
 pub mod CallLaws

@@ -22,11 +22,11 @@ pub unlike-off : (S : Setting) (F G : Cluster) (c : ℕ) → G c ≡ F c → G (
 unfolding unlike viewsOf
 unlike-off S F G c p q = rw (p, q)
 
-follower-falls : (S : Setting) (F G : Cluster) (c : ℕ) → ReadyPlan S (viewsOf S F) → LeaderDone S (viewsOf S F) → c < S .n → answers S (viewsOf S F) c ≡ true → Off c F G
+follower-falls : (S : Setting) (F G : Cluster) (c : ℕ) → ReadyPlan S (viewsOf S F) → LeaderDone S (viewsOf S F) → c < S .shape .n → answers S (viewsOf S F) c ≡ true → Off c F G
     → followerWork S (viewsOf S G) (unlike S G c) c < followerWork S (viewsOf S F) (unlike S F c) c → work S G < work S F
 unfolding work
 follower-falls S F G c r ld cn an off h =
-    sum-lt (weight S G) (weight S F) (S .n) c cn (λ d l. go d (ℕ-discrete d (S .leader)) (ℕ-discrete d c)) (rw (weight-idle S F c other idle, weight-idle S G c other idle′) h)
+    sum-lt (weight S G) (weight S F) (S .shape .n) c cn (λ d l. go d (ℕ-discrete d (S .leader)) (ℕ-discrete d c)) (rw (weight-idle S F c other idle, weight-idle S G c other idle′) h)
   where
     other : c ≡ S .leader → ⊥
     other = answers-other S (viewsOf S F) c an
@@ -50,7 +50,7 @@ follower-falls S F G c r ld cn an off h =
 leader-off : (S : Setting) (F G : Cluster) (c : ℕ) → answers S (viewsOf S F) c ≡ true → Off c F G → viewsOf S G (S .leader) ≡ viewsOf S F (S .leader)
 leader-off S F G c an off = off-views S F G c off (S .leader) (λ q. answers-other S (viewsOf S F) c an (sym q))
 
-pub work-falls : (S : Setting) (F G : Cluster) → S .leader < S .n → ReadyPlan S (viewsOf S F) → Move S F G → work S G < work S F
+pub work-falls : (S : Setting) (F G : Cluster) → S .leader < S .shape .n → ReadyPlan S (viewsOf S F) → Move S F G → work S G < work S F
 work-falls S F G ok r (leader-blanked l off t h) = leader-falls S F G ok (blanked-falls S F G l t h (same-plan S F G r (leader-blanked l off t h) .ends))
 work-falls S F G ok r (leader-mended k off t h full x y u) = leader-falls S F G ok (mended-falls S F G k t h u (same-plan S F G r (leader-mended k off t h full x y u) .ends))
 work-falls S F G ok r (follower-blanked c l ld cn an off t h) =

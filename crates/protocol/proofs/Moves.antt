@@ -40,15 +40,15 @@ pub data Move (S : Setting) (F G : Cluster) : Type 0 where
   leader-mended : (k : ℕ) → Off (S .leader) F G → Mended k (viewsOf S F (S .leader)) (viewsOf S G (S .leader))
       → k < end S (viewsOf S F) → end S (viewsOf S F) ≡ viewsOf S F (S .leader) .length
       → isTruncate (rule S (viewsOf S F) k) ≡ false → isWait (rule S (viewsOf S F) k) ≡ false → isComplete (viewsOf S F (S .leader) .condition k) ≡ false → Move S F G
-  follower-blanked : (c l : ℕ) → LeaderDone S (viewsOf S F) → c < S .n → answers S (viewsOf S F) c ≡ true → Off c F G
+  follower-blanked : (c l : ℕ) → LeaderDone S (viewsOf S F) → c < S .shape .n → answers S (viewsOf S F) c ≡ true → Off c F G
       → Blanked l (viewsOf S F c) (viewsOf S G c) → firstDiffering S (viewsOf S F) c ≤ l → Move S F G
-  follower-mended : (c k : ℕ) → LeaderDone S (viewsOf S F) → c < S .n → answers S (viewsOf S F) c ≡ true → Off c F G
+  follower-mended : (c k : ℕ) → LeaderDone S (viewsOf S F) → c < S .shape .n → answers S (viewsOf S F) c ≡ true → Off c F G
       → Mended k (viewsOf S F c) (viewsOf S G c) → k < firstDiffering S (viewsOf S F) c → firstDiffering S (viewsOf S F) c ≡ viewsOf S F c .length
       → isComplete (viewsOf S F c .condition k) ≡ false → unlike S G c ≡ unlike S F c → Move S F G
-  follower-filled : (c : ℕ) → LeaderDone S (viewsOf S F) → c < S .n → answers S (viewsOf S F) c ≡ true → Off c F G
+  follower-filled : (c : ℕ) → LeaderDone S (viewsOf S F) → c < S .shape .n → answers S (viewsOf S F) c ≡ true → Off c F G
       → viewsOf S G c ≡ viewsOf S F c → firstDiffering S (viewsOf S F) c ≡ viewsOf S F c .length
       → viewsOf S F c .length < viewsOf S F (S .leader) .length → unlike S F c ≡ true → unlike S G c ≡ false → Move S F G
-  follower-appended : (c : ℕ) → LeaderDone S (viewsOf S F) → c < S .n → answers S (viewsOf S F) c ≡ true → Off c F G
+  follower-appended : (c : ℕ) → LeaderDone S (viewsOf S F) → c < S .shape .n → answers S (viewsOf S F) c ≡ true → Off c F G
       → Appended (viewsOf S F c .length) (viewsOf S F (S .leader) .epoch (viewsOf S F c .length)) (viewsOf S F c) (viewsOf S G c)
       → firstDiffering S (viewsOf S F) c ≡ viewsOf S F c .length → viewsOf S F c .length < viewsOf S F (S .leader) .length → unlike S F c ≡ false → Move S F G
 
@@ -85,7 +85,7 @@ pub unlike-same : (S : Setting) (F : Cluster) (c : ℕ) (i : Image) → answers 
 unfolding unlike viewsOf
 unlike-same S F c i an l e = rw (put-other F c i (S .leader) (λ q. answers-other S (viewsOf S F) c an (sym q)), put-same, l, e)
 
-filled : (S : Setting) (F : Cluster) (c : ℕ) → ReadyPlan S (viewsOf S F) → LeaderDone S (viewsOf S F) → c < S .n → answers S (viewsOf S F) c ≡ true
+filled : (S : Setting) (F : Cluster) (c : ℕ) → ReadyPlan S (viewsOf S F) → LeaderDone S (viewsOf S F) → c < S .shape .n → answers S (viewsOf S F) c ≡ true
     → firstDiffering S (viewsOf S F) c ≡ viewsOf S F c .length → viewsOf S F c .length < viewsOf S F (S .leader) .length → unlike S F c ≡ true
     → Move S F (put F c (setEntry (F c) (viewsOf S F c .length) (F (S .leader) .entries (viewsOf S F c .length))))
 unfolding viewsOf unlike
@@ -105,7 +105,7 @@ filled S F c r ld cn an full h e =
     same : view S c (setEntry (F c) l x) ≡ view S c (F c)
     same = fill-effect S c (F c) (answers-readable S (viewsOf S F) c an) l x (omega arith) (omega (arith, leader-fits S F (S .leader), h))
 
-appended : (S : Setting) (F : Cluster) (c : ℕ) → ReadyPlan S (viewsOf S F) → LeaderDone S (viewsOf S F) → c < S .n → answers S (viewsOf S F) c ≡ true
+appended : (S : Setting) (F : Cluster) (c : ℕ) → ReadyPlan S (viewsOf S F) → LeaderDone S (viewsOf S F) → c < S .shape .n → answers S (viewsOf S F) c ≡ true
     → firstDiffering S (viewsOf S F) c ≡ viewsOf S F c .length → viewsOf S F c .length < viewsOf S F (S .leader) .length → unlike S F c ≡ false
     → Move S F (put F c (setRecord (F c) (viewsOf S F c .length) (good (viewsOf S F (S .leader) .epoch (viewsOf S F c .length)))))
 unfolding viewsOf

@@ -25,18 +25,18 @@ use Rattle.protocol.proofs.CallLaws.{accepted, refusal-same}
 
 -- b is what recovery can reach from b₀, and has its size
 pub record Reached (S : Setting) (b₀ b : Bytes) : Type 0 where
-  pub size : length b ≡ imageAt (S .m) (S .n)
-  pub reach : Reach S (decode (S .n) (S .m) b₀) (decode (S .n) (S .m) b)
+  pub size : length b ≡ imageAt (S .shape) (S .shape .n)
+  pub reach : Reach S (decode (S .shape) b₀) (decode (S .shape) b)
 
 -- so many steps
-pub steps-reached : (S : Setting) → S .leader < S .n → (j : ℕ) (b : Bytes) → length b ≡ imageAt (S .m) (S .n) → Reached S b (stepsBytes S j b)
+pub steps-reached : (S : Setting) → S .leader < S .shape .n → (j : ℕ) (b : Bytes) → length b ≡ imageAt (S .shape) (S .shape .n) → Reached S b (stepsBytes S j b)
 steps-reached S low j b size =
     let w = steps-mean S low j b size in
-    record { size = w .size; reach = rw (w .is) (reach-steps S j (decode (S .n) (S .m) b)) }
+    record { size = w .size; reach = rw (w .is) (reach-steps S j (decode (S .shape) b)) }
 
 -- where planning is not refused: b₀ the cluster at first, b one that recovery can reach
 pub record Unsupposed (S : Setting) (b₀ b : Bytes) : Type 0 where
-  pub away : (c : ℕ) → c < S .n → viewsIn S b₀ c .readable ≡ false → imagePart (S .m) b c ≡ imagePart (S .m) b₀ c
+  pub away : (c : ℕ) → c < S .shape .n → viewsIn S b₀ c .readable ≡ false → imagePart (S .shape) b c ≡ imagePart (S .shape) b₀ c
   pub readables : (c : ℕ) → viewsIn S b c .readable ≡ viewsIn S b₀ c .readable
   pub answers : answer S (viewsIn S b) ≡ answer S (viewsIn S b₀)
   pub waiting : (k : ℕ) → answer S (viewsIn S b₀) ≡ Waiting k → b ≡ b₀
@@ -47,26 +47,26 @@ pub record Unsupposed (S : Setting) (b₀ b : Bytes) : Type 0 where
   pub bytes : (i j : ℕ) → nextIn S (stepsBytes S i b) ≡ none → nextIn S (stepsBytes S j b₀) ≡ none → stepsBytes S i b ≡ stepsBytes S j b₀
 
 -- a plan that waits has no store
-pub waiting-none : (S : Setting) (b : Bytes) (k : ℕ) → answer S (viewsIn S b) ≡ Waiting k → next S (decode (S .n) (S .m) b) ≡ none
+pub waiting-none : (S : Setting) (b : Bytes) (k : ℕ) → answer S (viewsIn S b) ≡ Waiting k → next S (decode (S .shape) b) ≡ none
 unfolding viewsIn next ifReady
 waiting-none S b k e = rw e
 
-module _ (S : Setting) (low : S .leader < S .n) (b₀ b : Bytes) (size : length b₀ ≡ imageAt (S .m) (S .n)) (r : Reached S b₀ b) where
-  a : Always S (decode (S .n) (S .m) b₀) (decode (S .n) (S .m) b)
-  a = always S (decode (S .n) (S .m) b₀) low (r .reach)
+module _ (S : Setting) (low : S .leader < S .shape .n) (b₀ b : Bytes) (size : length b₀ ≡ imageAt (S .shape) (S .shape .n)) (r : Reached S b₀ b) where
+  a : Always S (decode (S .shape) b₀) (decode (S .shape) b)
+  a = always S (decode (S .shape) b₀) low (r .reach)
 
-  means : (j : ℕ) → Means S (stepsBytes S j b) (steps S j (decode (S .n) (S .m) b))
+  means : (j : ℕ) → Means S (stepsBytes S j b) (steps S j (decode (S .shape) b))
   means j = steps-mean S low j b (r .size)
 
   -- runs that leave nothing outstanding
   same-end : (i j : ℕ) → nextIn S (stepsBytes S i b) ≡ none → nextIn S (stepsBytes S j b₀) ≡ none → stepsBytes S i b ≡ stepsBytes S j b₀
   unfolding nextIn
   same-end i j x y =
-      let F = decode (S .n) (S .m) b in
-      let F₀ = decode (S .n) (S .m) b₀ in
+      let F = decode (S .shape) b in
+      let F₀ = decode (S .shape) b₀ in
       let v = means i in
       let w = steps-mean S low j b₀ size in
-      decode-injective (S .n) (S .m) (stepsBytes S i b) (stepsBytes S j b₀) (v .size) (w .size)
+      decode-injective (S .shape) (stepsBytes S i b) (stepsBytes S j b₀) (v .size) (w .size)
       (v .is
       ∙ unspent S i (enough S) F (rw (v .is) at x) (finishes S low (enough S) F (work-bound S F))
       ∙ a .finals
@@ -76,15 +76,15 @@ module _ (S : Setting) (low : S .leader < S .n) (b₀ b : Bytes) (size : length 
   pub unsupposed : Unsupposed S b₀ b
   unfolding viewsIn nextIn
   unsupposed =
-      let F = decode (S .n) (S .m) b in
+      let F = decode (S .shape) b in
       record {
-        away = λ c cn f. image-part-same (S .n) (S .m) b b₀ (r .size) size c cn (a .untouched c f);
+        away = λ c cn f. image-part-same (S .shape) b b₀ (r .size) size c cn (a .untouched c f);
         readables = a .readables;
         answers = a .answers;
-        waiting = λ k e. decode-injective (S .n) (S .m) b b₀ (r .size) size (a .still (waiting-none S b₀ k e));
+        waiting = λ k e. decode-injective (S .shape) b b₀ (r .size) size (a .still (waiting-none S b₀ k e));
         bounded = λ j. rw (stores-mean S low j b (r .size)) (stores-bound S low j F);
         counted = λ j.
-            decode-injective (S .n) (S .m) (stepsBytes S (storesBytes S j b) b) (stepsBytes S j b) (means (storesBytes S j b) .size) (means j .size)
+            decode-injective (S .shape) (stepsBytes S (storesBytes S j b) b) (stepsBytes S j b) (means (storesBytes S j b) .size) (means j .size)
             (means (storesBytes S j b) .is ∙ rw (stores-mean S low j b (r .size)) (steps-stores S j F) ∙ sym (means j .is));
         spent = λ j s e. stores-mean S low j b (r .size) ∙ spent-all S j F s (rw (means j .is) at e);
         unspent = λ j h. rw (means j .is) (finishes S low j F (omega (arith, work-bound S F)));
@@ -93,7 +93,7 @@ module _ (S : Setting) (low : S .leader < S .n) (b₀ b : Bytes) (size : length 
 
 -- what recovery can reach from a cluster that is not refused
 pub record After (N : Numbers) (b₀ b : Bytes) : Type 0 where
-  pub size : length b ≡ imageAt (N .m) (N .n)
+  pub size : length b ≡ imageAt (N .shape) (N .shape .n)
   pub accepts : refusalIn N b ≡ 0
   pub facts : Unsupposed (named N) b₀ b
 

@@ -11,19 +11,19 @@ use Rattle.planner.specs.Setting.{Setting}
 use Rattle.planner.specs.Rules.{mayTruncate, isFaulty, have, dontHave, donor, rule, Fetch, Truncate, Wait, isTruncate, isWait, answer, Waiting, firstWaiting, end}
 
 -- a copy within reach is fetched
-pub fetches : (S : Setting) (W : ℕ → View) (k c : ℕ) → c < S .n → have S W k c ≡ true → isFaulty (W (S .leader) .condition k) ≡ true → rule S W k ≡ Fetch
+pub fetches : (S : Setting) (W : ℕ → View) (k c : ℕ) → c < S .shape .n → have S W k c ≡ true → isFaulty (W (S .leader) .condition k) ≡ true → rule S W k ≡ Fetch
 unfolding rule donor
 fetches S W k c cn h f =
-    let b = lowest-le-passing (have S W k) (S .n) c cn h in
-    rw (f, lt-ltb (lowest (have S W k) (S .n)) (S .n) (omega arith))
+    let b = lowest-le-passing (have S W k) (S .shape .n) c cn h in
+    rw (f, lt-ltb (lowest (have S W k) (S .shape .n)) (S .shape .n) (omega arith))
 
 -- with none, and no truncation, the slot waits
-pub waits : (S : Setting) (W : ℕ → View) (k : ℕ) → ((c : ℕ) → c < S .n → have S W k c ≡ false) → isFaulty (W (S .leader) .condition k) ≡ true → isTruncate (rule S W k) ≡ false → isWait (rule S W k) ≡ true
+pub waits : (S : Setting) (W : ℕ → View) (k : ℕ) → ((c : ℕ) → c < S .shape .n → have S W k c ≡ false) → isFaulty (W (S .leader) .condition k) ≡ true → isTruncate (rule S W k) ≡ false → isWait (rule S W k) ≡ true
 unfolding rule donor isTruncate isWait
 waits S W k no-have f t =
-    let b : lowest (have S W k) (S .n) ≡ S .n = lowest-is (have S W k) (S .n) (S .n) (omega arith) no-have (λ h. absurd (omega arith)) in
-    let z = le-ltb (lowest (have S W k) (S .n)) (S .n) (omega arith) in
-    rw (f, z) (go (mayTruncate (S .n) (count (dontHave S W k) (S .n))) (rw (f, z) at t))
+    let b : lowest (have S W k) (S .shape .n) ≡ S .shape .n = lowest-is (have S W k) (S .shape .n) (S .shape .n) (omega arith) no-have (λ h. absurd (omega arith)) in
+    let z = le-ltb (lowest (have S W k) (S .shape .n)) (S .shape .n) (omega arith) in
+    rw (f, z) (go (mayTruncate (S .shape .n) (count (dontHave S W k) (S .shape .n))) (rw (f, z) at t))
   where
     go : (a : Bool) → isTruncate (cond a Truncate Wait) ≡ false → isWait (cond a Truncate Wait) ≡ true
     go true t = sym t

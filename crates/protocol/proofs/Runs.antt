@@ -24,7 +24,7 @@ pub record Progress (S : Setting) (F G : Cluster) : Type 0 where
   pub answers : answer S (viewsOf S G) ≡ answer S (viewsOf S F)
   pub readables : (c : ℕ) → viewsOf S G c .readable ≡ viewsOf S F c .readable
 
-pub step-law : (S : Setting) (F : Cluster) (s : Store) → S .leader < S .n → next S F ≡ some s → Progress S F (afterStore s F)
+pub step-law : (S : Setting) (F : Cluster) (s : Store) → S .leader < S .shape .n → next S F ≡ some s → Progress S F (afterStore s F)
 step-law S F s ok e =
     let o = due-facts S F s e in
     let v = moved S F s (o .plan) (o .is-due) in
@@ -42,7 +42,7 @@ module _ (S : Setting) where
   steps-some b F s e = rw e
 
   -- law 3: stores enough, and none is outstanding
-  pub finishes : S .leader < S .n → (b : ℕ) (F : Cluster) → work S F ≤ b → next S (steps S b F) ≡ none
+  pub finishes : S .leader < S .shape .n → (b : ℕ) (F : Cluster) → work S F ≤ b → next S (steps S b F) ≡ none
   unfolding steps after
   finishes ok zero F h = go (next S F) refl
     where
@@ -66,12 +66,12 @@ module _ (S : Setting) where
       go (some s) p ih = steps-some (suc b) F s p ∙ ih (afterStore s F) (rw (steps-some b F s p) at e) ∙ sym (steps-some b F s p)
 
   abbrev pub enough : ℕ
-  enough = 3 * S .n * S .m
+  enough = 3 * S .shape .n * S .shape .m
 
-  pub final-stored : S .leader < S .n → (F : Cluster) (s : Store) → next S F ≡ some s → steps S enough (afterStore s F) ≡ steps S enough F
+  pub final-stored : S .leader < S .shape .n → (F : Cluster) (s : Store) → next S F ≡ some s → steps S enough (afterStore s F) ≡ steps S enough F
   final-stored ok F s e = sym (steps-some enough F s e) ∙ at-rest enough F (finishes ok enough F (work-bound S F))
 
-  pub final-torn : S .leader < S .n → (F G : Cluster) (s : Store) → next S F ≡ some s → Torn F s G → steps S enough G ≡ steps S enough F
+  pub final-torn : S .leader < S .shape .n → (F G : Cluster) (s : Store) → next S F ≡ some s → Torn F s G → steps S enough G ≡ steps S enough F
   final-torn ok F G s e t =
       let w = torn-law S F G s e t in
       sym (final-stored ok G s (w .next-same ∙ e)) ∙ ap (steps S enough) (w .stored-same) ∙ final-stored ok F s e
@@ -87,7 +87,7 @@ module _ (S : Setting) where
       go (some s) e ih = made s e (ih (afterStore s F))
 
 -- ---- how many stores a run makes
-stores-work : (S : Setting) → S .leader < S .n → (b : ℕ) (F : Cluster) → stores S b F ≤ work S F
+stores-work : (S : Setting) → S .leader < S .shape .n → (b : ℕ) (F : Cluster) → stores S b F ≤ work S F
 unfolding stores after
 stores-work S ok zero F = omega arith
 stores-work S ok (suc b) F = go (next S F) refl (stores-work S ok b)
@@ -97,7 +97,7 @@ stores-work S ok (suc b) F = go (next S F) refl (stores-work S ok b)
     go (some s) e ih = omega (arith, ih (afterStore s F), step-law S F s ok e .less)
 
 -- law 3: no run from any cluster makes more than 3 × n × m stores
-pub stores-bound : (S : Setting) → S .leader < S .n → (b : ℕ) (F : Cluster) → stores S b F ≤ 3 * S .n * S .m
+pub stores-bound : (S : Setting) → S .leader < S .shape .n → (b : ℕ) (F : Cluster) → stores S b F ≤ 3 * S .shape .n * S .shape .m
 stores-bound S ok b F = omega (arith, stores-work S ok b F, work-bound S F)
 
 -- a store is outstanding after a run only if the whole budget was used

@@ -66,7 +66,7 @@ pub slot-whole : (S : Setting) (F : Cluster) (c k : ℕ) → viewsOf S F c .read
     → viewsOf S F c .condition k ≡ Whole
 unfolding viewsOf viewOf conditionAt condition isBlank isLost isFaulty isRecordLost
 slot-whole S F c k ok h t u =
-    go (F c .records k) (F c .entries k) (used-below (S .m) (F c) k h) (readable-sound (S .present c) (S .m) (F c) ok .kept k (omega (arith, length-le (S .m) (F c)))) t u
+    go (F c .records k) (F c .entries k) (used-below (S .shape .m) (F c) k h) (readable-sound (S .present c) (S .shape .m) (F c) ok .kept k (omega (arith, length-le (S .shape .m) (F c)))) t u
   where
     go : (r : Record) (x : Entry) → isBlank r ≡ false → isLost (condition r x) ≡ false → isFaulty (condition r x) ≡ false → isRecordLost (condition r x) ≡ false → condition r x ≡ Whole
     go (good e) (intact f p) a b t u = at (eqb e f) t
@@ -91,7 +91,7 @@ leader-entry S F ok d k h = whole-intact (F (S .leader) .records k) (F (S .leade
 
 -- ---- a donor has the entry intact with the leader's epoch
 pub record Donated (S : Setting) (W : ℕ → View) (k : ℕ) : Type 0 where
-  pub below : donor S W k < S .n
+  pub below : donor S W k < S .shape .n
   pub asked : answers S W (donor S W k) ≡ true
   pub whole : isWhole (W (donor S W k) .condition k) ≡ true
   pub epochs : W (donor S W k) .epoch k ≡ W (S .leader) .epoch k
@@ -100,15 +100,15 @@ pub record Donated (S : Setting) (W : ℕ → View) (k : ℕ) : Type 0 where
 pub fetch-facts : (S : Setting) (W : ℕ → View) (k : ℕ) → rule S W k ≡ Fetch → Donated S W k
 unfolding rule donor have agrees
 fetch-facts S W k e =
-    go (isFaulty (W (S .leader) .condition k)) (ltb (donor S W k) (S .n)) (mayTruncate (S .n) (count (dontHave S W k) (S .n))) refl refl e
+    go (isFaulty (W (S .leader) .condition k)) (ltb (donor S W k) (S .shape .n)) (mayTruncate (S .shape .n) (count (dontHave S W k) (S .shape .n))) refl refl e
   where
     d : ℕ
     d = donor S W k
 
-    go : (a b t : Bool) → isFaulty (W (S .leader) .condition k) ≡ a → ltb d (S .n) ≡ b → cond a (cond b Fetch (cond t Truncate Wait)) Keep ≡ Fetch → Donated S W k
+    go : (a b t : Bool) → isFaulty (W (S .leader) .condition k) ≡ a → ltb d (S .shape .n) ≡ b → cond a (cond b Fetch (cond t Truncate Wait)) Keep ≡ Fetch → Donated S W k
     go true true t p q e =
-        let h : d < S .n = ltb-true d (S .n) q in
-        let z = lowest-passes (have S W k) (S .n) h in
+        let h : d < S .shape .n = ltb-true d (S .shape .n) q in
+        let z = lowest-passes (have S W k) (S .shape .n) h in
         let z₁ = and-left (answers S W d) (isWhole (W d .condition k)) (and-left (answers S W d && isWhole (W d .condition k)) (agrees S W d k) z) in
         let z₂ = and-right (answers S W d) (isWhole (W d .condition k)) (and-left (answers S W d && isWhole (W d .condition k)) (agrees S W d k) z) in
         let z₃ = and-right (answers S W d && isWhole (W d .condition k)) (agrees S W d k) z in
@@ -129,14 +129,14 @@ pub like-entry : (S : Setting) (F : Cluster) (c : ℕ) → unlike S F c ≡ fals
 unfolding unlike
 like-entry S F c e = same-entry (F c .entries (viewsOf S F c .length)) (F (S .leader) .entries (viewsOf S F c .length)) (not-false (sameEntry (F c .entries (viewsOf S F c .length)) (F (S .leader) .entries (viewsOf S F c .length))) e)
 
-pub leader-fits : (S : Setting) (F : Cluster) (c : ℕ) → viewsOf S F c .length ≤ S .m
+pub leader-fits : (S : Setting) (F : Cluster) (c : ℕ) → viewsOf S F c .length ≤ S .shape .m
 unfolding viewsOf viewOf
-leader-fits S F c = length-le (S .m) (F c)
+leader-fits S F c = length-le (S .shape .m) (F c)
 
 pub leader-rises : (S : Setting) (F : Cluster) → viewsOf S F (S .leader) .readable ≡ true → (j : ℕ) → suc j < viewsOf S F (S .leader) .length
     → viewsOf S F (S .leader) .epoch j ≤ viewsOf S F (S .leader) .epoch (suc j)
 unfolding viewsOf viewOf
-leader-rises S F ok j h = readable-sound (S .present (S .leader)) (S .m) (F (S .leader)) ok .rise j h
+leader-rises S F ok j h = readable-sound (S .present (S .leader)) (S .shape .m) (F (S .leader)) ok .rise j h
 
 -- a missing slot's epoch is not below the last one's
 pub append-up : (S : Setting) (F : Cluster) (c : ℕ) → ReadyPlan S (viewsOf S F) → LeaderDone S (viewsOf S F) → firstDiffering S (viewsOf S F) c ≡ viewsOf S F c .length

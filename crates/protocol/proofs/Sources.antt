@@ -28,7 +28,7 @@ use Rattle.protocol.proofs.Keeps.{stored-off, Target}
 
 pub record Source (S : Setting) (F G : Cluster) (c k : ℕ) : Type 0 where
   pub from : ℕ
-  pub below : from < S .n
+  pub below : from < S .shape .n
   pub ok : viewsOf S F from .readable ≡ true
   pub within : k < viewsOf S F from .length
   pub epochs : viewsOf S F from .epoch k ≡ viewsOf S G c .epoch k
@@ -90,15 +90,15 @@ module _ (S : Setting) (F : Cluster) (c : ℕ) (t : Target S F c) where
       go (no q) = from-other S F c (setRecord (F c) l (good v)) k c t (omega (arith, b′)) (sym (x .epochs k (omega (arith, b′)))) (sym (record-off (F c) l (good v) k))
 
 -- a whole slot lies in the log
-pub whole-within : (S : Setting) (F : Cluster) (c k : ℕ) → viewsOf S F c .readable ≡ true → k < S .m → isWhole (viewsOf S F c .condition k) ≡ true → k < viewsOf S F c .length
+pub whole-within : (S : Setting) (F : Cluster) (c k : ℕ) → viewsOf S F c .readable ≡ true → k < S .shape .m → isWhole (viewsOf S F c .condition k) ≡ true → k < viewsOf S F c .length
 unfolding viewsOf viewOf conditionAt condition isWhole
-whole-within S F c k ok h w = go (decLt k (logLength (S .m) (F c)))
+whole-within S F c k ok h w = go (decLt k (logLength (S .shape .m) (F c)))
   where
-    go : Dec (k < logLength (S .m) (F c)) → k < logLength (S .m) (F c)
+    go : Dec (k < logLength (S .shape .m) (F c)) → k < logLength (S .shape .m) (F c)
     go (yes l) = l
-    go (no l) = absurd (true≢false (sym (rw (readable-sound (S .present c) (S .m) (F c) ok .tail k (omega arith) h) at w)))
+    go (no l) = absurd (true≢false (sym (rw (readable-sound (S .present c) (S .shape .m) (F c) ok .tail k (omega arith) h) at w)))
 
-leader-source : (S : Setting) (F : Cluster) (s : Store) → S .leader < S .n → ReadyPlan S (viewsOf S F) → LeaderDue S F s → (k : ℕ) → k < viewsOf S (afterStore s F) (storeReplica s) .length → Source S F (afterStore s F) (storeReplica s) k
+leader-source : (S : Setting) (F : Cluster) (s : Store) → S .leader < S .shape .n → ReadyPlan S (viewsOf S F) → LeaderDue S F s → (k : ℕ) → k < viewsOf S (afterStore s F) (storeReplica s) .length → Source S F (afterStore s F) (storeReplica s) k
 unfolding afterStore storeReplica
 leader-source S F s n r (leader-blank l h e) = blank-source S F (S .leader) (record { below = n; ok = r .leader }) l h
 leader-source S F s n r (leader-fetch j h full e) =
@@ -111,7 +111,7 @@ leader-source S F s n r (leader-fetch j h full e) =
     (rw (y .is) (unfold viewsOf in mend-effect S (S .leader) (F (S .leader)) (r .leader) j (y .payload) (d .faulty)))
 leader-source S F s n r (leader-write j h full e) = write-source S F (S .leader) (record { below = n; ok = r .leader }) j (unfold viewsOf in write-effect S (S .leader) (F (S .leader)) (r .leader) j e)
 
-follower-source : (S : Setting) (F : Cluster) (s : Store) → S .leader < S .n → ReadyPlan S (viewsOf S F) → FollowerDue S F s → (k : ℕ) → k < viewsOf S (afterStore s F) (storeReplica s) .length → Source S F (afterStore s F) (storeReplica s) k
+follower-source : (S : Setting) (F : Cluster) (s : Store) → S .leader < S .shape .n → ReadyPlan S (viewsOf S F) → FollowerDue S F s → (k : ℕ) → k < viewsOf S (afterStore s F) (storeReplica s) .length → Source S F (afterStore s F) (storeReplica s) k
 unfolding afterStore storeReplica viewsOf
 follower-source S F s n r (follower-blank c ld cn an l h e) = blank-source S F c (record { below = cn; ok = answers-readable S (viewsOf S F) c an }) l h
 follower-source S F s n r (follower-mend c ld cn an full j h e) =
@@ -132,7 +132,7 @@ follower-source S F s n r (follower-append c ld cn an full h e) =
     append-source S F c t (S .leader) (viewsOf S F (S .leader) .epoch (viewsOf S F c .length)) (record { below = n; ok = r .leader }) h refl (like-entry S F c e)
     (append-effect S c (F c) (t .ok) (viewsOf S F (S .leader) .epoch (viewsOf S F c .length)) (y .payload) (omega (arith, leader-fits S F (S .leader), h)) (like-entry S F c e ∙ y .is) (append-up S F c r ld full h))
 
-pub stored-source : (S : Setting) (F : Cluster) (s : Store) → S .leader < S .n → ReadyPlan S (viewsOf S F) → Due S F s → (c k : ℕ) → c < S .n → viewsOf S F c .readable ≡ true
+pub stored-source : (S : Setting) (F : Cluster) (s : Store) → S .leader < S .shape .n → ReadyPlan S (viewsOf S F) → Due S F s → (c k : ℕ) → c < S .shape .n → viewsOf S F c .readable ≡ true
     → k < viewsOf S (afterStore s F) c .length → Source S F (afterStore s F) c k
 stored-source S F s n r u c k cn ok h = go (ℕ-discrete c (storeReplica s))
   where

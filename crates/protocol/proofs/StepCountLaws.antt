@@ -19,7 +19,7 @@ module _ (S : Setting) where
   unfolding stepsBytes after
   steps-suc j b = go (nextIn S b) refl
     where
-      go : (o : Option Store) → nextIn S b ≡ o → after o b (λ s. stepsBytes S j (afterStoreBytes (S .m) s b)) ≡ stepsBytes S j (after o b (λ s. afterStoreBytes (S .m) s b))
+      go : (o : Option Store) → nextIn S b ≡ o → after o b (λ s. stepsBytes S j (afterStoreBytes (S .shape) s b)) ≡ stepsBytes S j (after o b (λ s. afterStoreBytes (S .shape) s b))
       go none e = sym (steps-still j b e)
       go (some s) e = refl
 
@@ -30,8 +30,8 @@ module _ (S : Setting) where
   few zero (suc j) b e = rw e (omega arith)
   few (suc i) (suc j) b e = go (nextIn S b) refl e (few i j)
     where
-      go : (o : Option Store) → nextIn S b ≡ o → nextIn S (after o b (λ s. stepsBytes S i (afterStoreBytes (S .m) s b))) ≡ none
+      go : (o : Option Store) → nextIn S b ≡ o → nextIn S (after o b (λ s. stepsBytes S i (afterStoreBytes (S .shape) s b))) ≡ none
           → ((a : Bytes) → nextIn S (stepsBytes S i a) ≡ none → storesBytes S j a ≤ i)
-          → after o zero (λ s. suc (storesBytes S j (afterStoreBytes (S .m) s b))) ≤ suc i
+          → after o zero (λ s. suc (storesBytes S j (afterStoreBytes (S .shape) s b))) ≤ suc i
       go none q x ih = omega arith
-      go (some s) q x ih = omega (arith, ih (afterStoreBytes (S .m) s b) x)
+      go (some s) q x ih = omega (arith, ih (afterStoreBytes (S .shape) s b) x)

@@ -13,9 +13,9 @@ use Rattle.record.specs.Meaning.{Record, Entry, isEpoch}
 use Rattle.record.proofs.LayoutLaws.{length-record, length-blank}
 use Rattle.record.proofs.RecordLaws.{read-good, read-blank}
 use Rattle.record.proofs.EntryLaws.{intact-for}
-use Rattle.image.specs.Image.{recordAt, entryAt}
+use Rattle.image.specs.Image.{index, recordAt, entryAt}
 use Rattle.image.specs.SetSlot.{setRecord, setEntry}
-use Rattle.image.specs.Cluster.{Cluster, imageAt, decode}
+use Rattle.image.specs.Cluster.{Cluster, imageAt, firstAt, decode}
 use Rattle.image.proofs.DecodeLaws.{record-fits, entry-fits}
 use Rattle.image.proofs.ClusterLaws.{image-fits, entry-means, length-in-image, record-put, entry-put}
 use Rattle.planner.specs.Setting.{Setting, viewsOf}
@@ -24,77 +24,79 @@ use Rattle.protocol.specs.ClusterSteps.{afterStore}
 use Rattle.protocol.specs.Recovery.{next, after}
 use Rattle.protocol.specs.ClusterSteps.{steps, stores}
 use Rattle.protocol.specs.StepBytes.{afterStoreBytes, nextIn, stepsBytes, storesBytes}
+use Rattle.protocol.proofs.FirstLaws.{entry-as}
 use Rattle.protocol.proofs.ReadyPlan.{ReadyPlan}
 use Rattle.protocol.proofs.Due.{Due, due-facts}
 use Rattle.protocol.proofs.Keeps.{SomeEntry, due-target, due-slot, due-donor, due-epoch}
 use Rattle.protocol.proofs.Reach as reach
 
 module _ (S : Setting) where
-  open Setting S using (n, m, leader)
+  open Setting S using (shape, leader)
 
   -- a buffer of n images, and what it means
   pub record Means (b : Bytes) (F : Cluster) : Type 0 where
-    pub size : length b ≡ imageAt m n
-    pub is : decode n m b ≡ F
+    pub size : length b ≡ imageAt shape (shape .n)
+    pub is : decode shape b ≡ F
 
   -- a record is written only with the epoch of an intact entry
-  epoch-in-range : (b : Bytes) (k e : ℕ) → k < m → SomeEntry (decode n m b) k e → isEpoch e ≡ true
-  epoch-in-range b k e h x = intact-for (suc k) (part b (imageAt m (x .from) + entryAt m k) 240) e (x .there .payload) (sym (entry-means n m b (x .from) k h) ∙ x .there .is) .epoch
+  epoch-in-range : (b : Bytes) (k e : ℕ) → k < shape .m → SomeEntry (decode shape b) k e → isEpoch e ≡ true
+  epoch-in-range b k e h x = intact-for (index (firstAt shape b (x .from)) k) (part b (imageAt shape (x .from) + entryAt shape k) 240) e (x .there .payload) (sym (entry-means shape b (x .from) k h) ∙ x .there .is) .epoch
 
-  module _ (low : leader < n) where
-    pub store-means : (b : Bytes) → length b ≡ imageAt m n → (s : Store) → ReadyPlan S (viewsOf S (decode n m b)) → Due S (decode n m b) s
-        → Means (afterStoreBytes m s b) (afterStore s (decode n m b))
+  module _ (low : leader < shape .n) where
+    pub store-means : (b : Bytes) → length b ≡ imageAt shape (shape .n) → (s : Store) → ReadyPlan S (viewsOf S (decode shape b)) → Due S (decode shape b) s
+        → Means (afterStoreBytes shape s b) (afterStore s (decode shape b))
     unfolding afterStoreBytes afterStore storeReplica storeSlot
     store-means b size (storeEntry c k d) r u =
-        let cn = due-target S (decode n m b) (storeEntry c k d) low r u .below in
-        let km = due-slot S (decode n m b) (storeEntry c k d) u in
-        let dn = due-donor S (decode n m b) c k d low u in
-        let v = part b (imageAt m d + entryAt m k) 240 in
-        let l : length v ≡ 240 = length-part b (imageAt m d + entryAt m k) 240 (omega (arith, image-fits n m d dn, entry-fits m k km)) in
+        let cn = due-target S (decode shape b) (storeEntry c k d) low r u .below in
+        let km = due-slot S (decode shape b) (storeEntry c k d) u in
+        let dn = due-donor S (decode shape b) c k d low u in
+        let v = part b (imageAt shape d + entryAt shape k) 240 in
+        let l : length v ≡ 240 = length-part b (imageAt shape d + entryAt shape k) 240 (omega (arith, image-fits shape (shape .n) d dn, entry-fits shape (suc d) k km)) in
         record {
-          size = length-in-image n m b size c cn (entryAt m k) v (omega (arith, entry-fits m k km));
-          is = entry-put n m b size c k v cn km l ∙ ap (λ (x : Entry). put (decode n m b) c (setEntry (decode n m b c) k x)) (sym (entry-means n m b d k km));
+          size = length-in-image shape b size c cn (entryAt shape k) v (omega (arith, entry-fits shape (suc c) k km));
+          is = entry-put shape b size c k v cn km l ∙ ap (λ (x : Entry). put (decode shape b) c (setEntry (decode shape b c) k x)) (sym (entry-as shape b c d k km));
         }
     store-means b size (storeRecord c k e) r u =
-        let cn = due-target S (decode n m b) (storeRecord c k e) low r u .below in
-        let km = due-slot S (decode n m b) (storeRecord c k e) u in
-        let g = epoch-in-range b k e km (due-epoch S (decode n m b) c k e r u) in
-        let v = recordBytes e (suc k) in
+        let cn = due-target S (decode shape b) (storeRecord c k e) low r u .below in
+        let km = due-slot S (decode shape b) (storeRecord c k e) u in
+        let g = epoch-in-range b k e km (due-epoch S (decode shape b) c k e r u) in
+        let i = index (firstAt shape b c) k in
+        let v = recordBytes e i in
         record {
-          size = length-in-image n m b size c cn (recordAt k) v (omega (arith, length-record e (suc k), record-fits m k km));
-          is = record-put n m b size c k v cn km (length-record e (suc k)) ∙ ap (λ (x : Record). put (decode n m b) c (setRecord (decode n m b c) k x)) (read-good (suc k) e g);
+          size = length-in-image shape b size c cn (recordAt shape k) v (omega (arith, length-record e i, record-fits shape (suc c) k km));
+          is = record-put shape b size c k v cn km (length-record e i) ∙ ap (λ (x : Record). put (decode shape b) c (setRecord (decode shape b c) k x)) (read-good i e g);
         }
     store-means b size (storeBlank c k) r u =
-        let cn = due-target S (decode n m b) (storeBlank c k) low r u .below in
-        let km = due-slot S (decode n m b) (storeBlank c k) u in
+        let cn = due-target S (decode shape b) (storeBlank c k) low r u .below in
+        let km = due-slot S (decode shape b) (storeBlank c k) u in
         record {
-          size = length-in-image n m b size c cn (recordAt k) blankRecord (omega (arith, length-blank, record-fits m k km));
-          is = record-put n m b size c k blankRecord cn km length-blank ∙ ap (λ (x : Record). put (decode n m b) c (setRecord (decode n m b c) k x)) (read-blank (suc k));
+          size = length-in-image shape b size c cn (recordAt shape k) blankRecord (omega (arith, length-blank, record-fits shape (suc c) k km));
+          is = record-put shape b size c k blankRecord cn km length-blank ∙ ap (λ (x : Record). put (decode shape b) c (setRecord (decode shape b c) k x)) (read-blank (index (firstAt shape b c) k));
         }
 
-    pub next-means : (b : Bytes) → length b ≡ imageAt m n → (s : Store) → next S (decode n m b) ≡ some s → Means (afterStoreBytes m s b) (afterStore s (decode n m b))
-    next-means b size s e = let d = due-facts S (decode n m b) s e in store-means b size s (d .plan) (d .is-due)
+    pub next-means : (b : Bytes) → length b ≡ imageAt shape (shape .n) → (s : Store) → next S (decode shape b) ≡ some s → Means (afterStoreBytes shape s b) (afterStore s (decode shape b))
+    next-means b size s e = let d = due-facts S (decode shape b) s e in store-means b size s (d .plan) (d .is-due)
 
-    pub steps-mean : (j : ℕ) (b : Bytes) → length b ≡ imageAt m n → Means (stepsBytes S j b) (steps S j (decode n m b))
+    pub steps-mean : (j : ℕ) (b : Bytes) → length b ≡ imageAt shape (shape .n) → Means (stepsBytes S j b) (steps S j (decode shape b))
     unfolding stepsBytes steps after nextIn
     steps-mean zero b size = record { size = size; is = refl }
-    steps-mean (suc j) b size = go (next S (decode n m b)) refl (steps-mean j)
+    steps-mean (suc j) b size = go (next S (decode shape b)) refl (steps-mean j)
       where
-        go : (o : Option Store) → next S (decode n m b) ≡ o → ((a : Bytes) → length a ≡ imageAt m n → Means (stepsBytes S j a) (steps S j (decode n m a)))
-            → Means (after o b (λ s. stepsBytes S j (afterStoreBytes m s b))) (after o (decode n m b) (λ s. steps S j (afterStore s (decode n m b))))
+        go : (o : Option Store) → next S (decode shape b) ≡ o → ((a : Bytes) → length a ≡ imageAt shape (shape .n) → Means (stepsBytes S j a) (steps S j (decode shape a)))
+            → Means (after o b (λ s. stepsBytes S j (afterStoreBytes shape s b))) (after o (decode shape b) (λ s. steps S j (afterStore s (decode shape b))))
         go none e ih = record { size = size; is = refl }
         go (some s) e ih =
             let w = next-means b size s e in
-            rw (← w .is) (ih (afterStoreBytes m s b) (w .size))
+            rw (← w .is) (ih (afterStoreBytes shape s b) (w .size))
 
-    pub stores-mean : (j : ℕ) (b : Bytes) → length b ≡ imageAt m n → storesBytes S j b ≡ stores S j (decode n m b)
+    pub stores-mean : (j : ℕ) (b : Bytes) → length b ≡ imageAt shape (shape .n) → storesBytes S j b ≡ stores S j (decode shape b)
     unfolding storesBytes stores after nextIn
     stores-mean zero b size = refl
-    stores-mean (suc j) b size = go (next S (decode n m b)) refl (stores-mean j)
+    stores-mean (suc j) b size = go (next S (decode shape b)) refl (stores-mean j)
       where
-        go : (o : Option Store) → next S (decode n m b) ≡ o → ((a : Bytes) → length a ≡ imageAt m n → storesBytes S j a ≡ stores S j (decode n m a))
-            → after o zero (λ s. suc (storesBytes S j (afterStoreBytes m s b))) ≡ after o zero (λ s. suc (stores S j (afterStore s (decode n m b))))
+        go : (o : Option Store) → next S (decode shape b) ≡ o → ((a : Bytes) → length a ≡ imageAt shape (shape .n) → storesBytes S j a ≡ stores S j (decode shape a))
+            → after o zero (λ s. suc (storesBytes S j (afterStoreBytes shape s b))) ≡ after o zero (λ s. suc (stores S j (afterStore s (decode shape b))))
         go none e ih = refl
         go (some s) e ih =
             let w = next-means b size s e in
-            ap suc (ih (afterStoreBytes m s b) (w .size) ∙ ap (stores S j) (w .is))
+            ap suc (ih (afterStoreBytes shape s b) (w .size) ∙ ap (stores S j) (w .is))

@@ -58,7 +58,7 @@ module _ (S : Setting) (F : Cluster) (c k : ℕ) (b : Bytes) where
   -- only the unlike-test of c could tell
   followers-same : viewsOf S (put F c tornImage) ≡ viewsOf S F → (c ≡ S .leader → ⊥) → unlike S (put F c tornImage) c ≡ unlike S F c → followersStore S (put F c tornImage) ≡ followersStore S F
   unfolding followersStore
-  followers-same e q u = ap (λ (f : ℕ → Option Store). firstOf f (S .n)) (fun-ext (λ d. due-same S F (put F c tornImage) d e (unlikes d)))
+  followers-same e q u = ap (λ (f : ℕ → Option Store). firstOf f (S .shape .n)) (fun-ext (λ d. due-same S F (put F c tornImage) d e (unlikes d)))
     where
       unlikes : (d : ℕ) → unlike S (put F c tornImage) d ≡ unlike S F d
       unlikes d = go (ℕ-discrete d c)

@@ -36,42 +36,42 @@ module _ (S : Setting) (W : ℕ → View) where
 unfoldable pub weight : Setting → Cluster → ℕ → ℕ
 weight S F c =
     cond (eqb c (S .leader)) (leaderWork S (viewsOf S F))
-    (cond (eqb (leaderWork S (viewsOf S F)) 0) (followerWork S (viewsOf S F) (unlike S F c) c) (3 * S .m))
+    (cond (eqb (leaderWork S (viewsOf S F)) 0) (followerWork S (viewsOf S F) (unlike S F c) c) (3 * S .shape .m))
 
 unfoldable pub work : Setting → Cluster → ℕ
-work S F = sum (weight S F) (S .n)
+work S F = sum (weight S F) (S .shape .n)
 
 differing-le : (S : Setting) (W : ℕ → View) (c : ℕ) → firstDiffering S W c ≤ W c .length
 unfolding firstDiffering
 differing-le S W c = lowest-le (differs S W c) (W c .length)
 
-leader-bound : (S : Setting) (F : Cluster) → leaderWork S (viewsOf S F) ≤ 3 * S .m
+leader-bound : (S : Setting) (F : Cluster) → leaderWork S (viewsOf S F) ≤ 3 * S .shape .m
 unfolding leaderWork
 leader-bound S F = omega (arith, leader-fits S F (S .leader), end-le S (viewsOf S F), count-le (incomplete (viewsOf S F (S .leader))) (end S (viewsOf S F)))
 
-follower-bound : (S : Setting) (F : Cluster) (u : Bool) (c : ℕ) → followerWork S (viewsOf S F) u c ≤ 3 * S .m
+follower-bound : (S : Setting) (F : Cluster) (u : Bool) (c : ℕ) → followerWork S (viewsOf S F) u c ≤ 3 * S .shape .m
 unfolding followerWork
 follower-bound S F u c = omega (arith, leader-fits S F (S .leader), leader-fits S F c, differing-le S (viewsOf S F) c, count-le (incomplete (viewsOf S F c)) (firstDiffering S (viewsOf S F) c))
 
-pub weight-bound : (S : Setting) (F : Cluster) (c : ℕ) → weight S F c ≤ 3 * S .m
+pub weight-bound : (S : Setting) (F : Cluster) (c : ℕ) → weight S F c ≤ 3 * S .shape .m
 unfolding weight
 weight-bound S F c = go (eqb c (S .leader)) (eqb (leaderWork S (viewsOf S F)) 0)
   where
-    go : (a b : Bool) → cond a (leaderWork S (viewsOf S F)) (cond b (followerWork S (viewsOf S F) (unlike S F c) c) (3 * S .m)) ≤ 3 * S .m
+    go : (a b : Bool) → cond a (leaderWork S (viewsOf S F)) (cond b (followerWork S (viewsOf S F) (unlike S F c) c) (3 * S .shape .m)) ≤ 3 * S .shape .m
     go true b = leader-bound S F
     go false true = follower-bound S F (unlike S F c) c
     go false false = omega arith
 
-pub work-bound : (S : Setting) (F : Cluster) → work S F ≤ 3 * S .n * S .m
+pub work-bound : (S : Setting) (F : Cluster) → work S F ≤ 3 * S .shape .n * S .shape .m
 unfolding work
-work-bound S F = omega (arith, sum-bound (weight S F) (S .n) (3 * S .m) (λ c h. weight-bound S F c))
+work-bound S F = omega (arith, sum-bound (weight S F) (S .shape .n) (3 * S .shape .m) (λ c h. weight-bound S F c))
 
 -- ---- weights at their replicas
 pub weight-leader : (S : Setting) (F : Cluster) → weight S F (S .leader) ≡ leaderWork S (viewsOf S F)
 unfolding weight
 weight-leader S F = rw (eq-eqb (S .leader) (S .leader) refl)
 
-pub weight-busy : (S : Setting) (F : Cluster) (c : ℕ) → (c ≡ S .leader → ⊥) → 0 < leaderWork S (viewsOf S F) → weight S F c ≡ 3 * S .m
+pub weight-busy : (S : Setting) (F : Cluster) (c : ℕ) → (c ≡ S .leader → ⊥) → 0 < leaderWork S (viewsOf S F) → weight S F c ≡ 3 * S .shape .m
 unfolding weight
 weight-busy S F c q h = rw (ne-eqb c (S .leader) q, ne-eqb (leaderWork S (viewsOf S F)) 0 (omega arith))
 

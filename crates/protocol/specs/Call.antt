@@ -1,6 +1,7 @@
 -- A planner, step or run call: what it names, and when it is refused.
 use Prim.Native.Nat.{ℕ}
 use Rattle.slices.specs.Parts.{Bytes}
+use Rattle.record.specs.declared.Shape.{Shape}
 use Rattle.planner.specs.Setting.{Setting, settingOf}
 use Rattle.planner.specs.Plan.{clusterRefusal, planRefusal}
 
@@ -16,21 +17,20 @@ budgetOf (plan p r) = 0
 budgetOf step = 1
 budgetOf (run j) = j
 
--- what calls name: n, m, the leader's number and the present set as a word
+-- what calls name: a shape, the leader's number and the present set as a word
 pub record Numbers : Type 0 where
-  pub n : ℕ
-  pub m : ℕ
+  pub shape : Shape
   pub leader : ℕ
   pub present : ℕ
 
 abbrev pub named : Numbers → Setting
-named N = settingOf (N .n) (N .m) (N .leader) (N .present)
+named N = settingOf (N .shape) (N .leader) (N .present)
 
 -- the refusal of a step, of a run, and of planning with the buffers it asks for
 abbrev pub refusalIn : Numbers → Bytes → ℕ
-refusalIn N b = clusterRefusal (N .n) (N .m) (N .leader) (N .present) b
+refusalIn N b = clusterRefusal (N .shape) (N .leader) (N .present) b
 
 unfoldable pub refusalOf : Numbers → Call → Bytes → ℕ
-refusalOf N (plan p r) b = planRefusal (N .n) (N .m) (N .leader) (N .present) b p r
+refusalOf N (plan p r) b = planRefusal (N .shape) (N .leader) (N .present) b p r
 refusalOf N step b = refusalIn N b
 refusalOf N (run j) b = refusalIn N b

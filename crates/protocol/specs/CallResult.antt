@@ -65,11 +65,11 @@ callBytes N q b = cond (eqb (refusalOf N q b) 0) (stepsBytes (named N) (budgetOf
 
 -- the planner's call, lent buffers of the sizes that it asks for
 abbrev pub planning : Numbers → Call
-planning N = plan (N .m) (N .n)
+planning N = plan (N .shape .m) (N .shape .n)
 
 -- stores enough for every run
 abbrev pub bound : Numbers → ℕ
-bound N = 3 * N .n * N .m
+bound N = 3 * N .shape .n * N .shape .m
 
 -- the stores that a run counts
 unfoldable pub countOf : Result → ℕ

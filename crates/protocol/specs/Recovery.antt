@@ -21,7 +21,7 @@ unfoldable pub ifBelow : ℕ → ℕ → Store → Option Store
 ifBelow k b s = cond (ltb k b) (some s) none
 
 module _ (S : Setting) (W : ℕ → View) where
-  open Setting S using (n, leader)
+  open Setting S using (leader)
 
   -- the leader: records blanked from the last slot down to the end; fetched entries, lowest first; lost records, lowest first
   unfoldable pub leaderStore : Option Store
@@ -82,7 +82,7 @@ ifReady (Waiting k) s = none
 ifReady (Ready k) s = s
 
 module _ (S : Setting) (F : Cluster) where
-  open Setting S using (n, leader)
+  open Setting S using (shape, leader)
 
   -- the first missing slot of c has another entry than the leader's
   unfoldable pub unlike : ℕ → Bool
@@ -93,7 +93,7 @@ module _ (S : Setting) (F : Cluster) where
   due c = cond (answers S (viewsOf S F) c) (followerStore S (viewsOf S F) (unlike c) c) none
 
   unfoldable pub followersStore : Option Store
-  followersStore = firstOf due n
+  followersStore = firstOf due (shape .n)
 
   -- the first store still outstanding: none unless the plan is ready, the leader's before the others'
   unfoldable pub next : Option Store

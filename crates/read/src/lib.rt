@@ -8,7 +8,7 @@ ghost use Rattle.slices.specs.Parts.{part};
 ghost use Rattle.record.specs.Layout.{entrySize};
 ghost use Rattle.record.specs.Meaning.{Entry, entryPayload};
 ghost use Rattle.record.specs.Judged.{entryAnswer};
-ghost use Rattle.image.specs.Image.{Image, imageSize, entryAt, decodeImage};
+ghost use Rattle.image.specs.Image.{Image, entryAt, decodeUnder};
 ghost use Rattle.image.specs.View.{Condition, Unused, Faulty, conditionAt};
 ghost use Rattle.image.specs.View.{conditionNumber};
 ghost use Rattle.image.specs.Seen.{conditionsOf};
@@ -24,6 +24,7 @@ use locate::ENTRY_SIZE;
 use locate::PAYLOAD_AT;
 use locate::entry_at;
 use record::EntryState;
+use record::Shape;
 use view::entry_state;
 use view::is_whole;
 use view::open_image;
@@ -35,11 +36,11 @@ pub struct Span {
 }
 
 // Whether the entry of slot k is all spaces.
-fn is_fresh(image: &[u8], m: usize, k: usize) -> bool
-    requires { ⌜ (m ≤ 64) × (k < m) × (length (now image) ≡ imageSize m) ⌝ }
-    ensures { λ r. ⌜ ((c n : ℕ) → r ≡ isFresh (decodeImage c n m (now (image .entry)) .entries k)) ⌝ }
+fn is_fresh(image: &[u8], shape: Shape, k: usize) -> bool
+    requires { ⌜ (shape .m ≤ 64) × (k < shape .m) × (entryAt shape (shape .m) ≤ length (now image)) ⌝ }
+    ensures { λ r. ⌜ ((c first : ℕ) → r ≡ isFresh (decodeUnder shape c first (now (image .entry)) .entries k)) ⌝ }
 {
-    let a = entry_at(m, k);
+    let a = entry_at(shape, k);
     let e = a + ENTRY_SIZE;
     copy::all_bytes(&image[a..e], b' ')
 }
@@ -63,33 +64,33 @@ fn faulty_verdict(entry: EntryState, k: usize, used: usize) -> u8
 }
 
 // The verdict of slot k whose record is blank: unfinished, if it is the first such one and its entry is not fresh.
-fn unused_verdict(image: &[u8], m: usize, k: usize, used: usize) -> u8
-    requires { ⌜ (m ≤ 64) × (k < m) × (length (now image) ≡ imageSize m) ⌝ }
-    ensures { λ r. ⌜ ((c n : ℕ) → r ≡ verdictOf used k Unused (decodeImage c n m (now (image .entry)) .entries k)) ⌝ }
+fn unused_verdict(image: &[u8], shape: Shape, k: usize, used: usize) -> u8
+    requires { ⌜ (shape .m ≤ 64) × (k < shape .m) × (entryAt shape (shape .m) ≤ length (now image)) ⌝ }
+    ensures { λ r. ⌜ ((c first : ℕ) → r ≡ verdictOf used k Unused (decodeUnder shape c first (now (image .entry)) .entries k)) ⌝ }
 {
     if k != used {
         return 0;
     }
-    if is_fresh(image, m, k) {
+    if is_fresh(image, shape, k) {
         return 0;
     }
     5
 }
 
 // The verdict of slot k of a log of so many used slots. Where its condition does not tell, its entry is looked at.
-fn verdict(image: &[u8], m: usize, condition: u8, k: usize, used: usize) -> u8
-    requires { ⌜ (m ≤ 64) × (k < m) × (length (now image) ≡ imageSize m) ⌝ }
-    ensures { λ r. ⌜ ((c n : ℕ) (a : Condition) → condition ≡ conditionNumber a
-        → r ≡ verdictOf used k a (decodeImage c n m (now (image .entry)) .entries k)) ⌝ }
+fn verdict(image: &[u8], shape: Shape, first: u32, condition: u8, k: usize, used: usize) -> u8
+    requires { ⌜ (shape .m ≤ 64) × (k < shape .m) × (entryAt shape (shape .m) ≤ length (now image)) ⌝ }
+    ensures { λ r. ⌜ ((c : ℕ) (a : Condition) → condition ≡ conditionNumber a
+        → r ≡ verdictOf used k a (decodeUnder shape c first (now (image .entry)) .entries k)) ⌝ }
 {
     if condition == condition::LOST {
         return 0;
     }
     if condition == condition::FAULTY {
-        return faulty_verdict(entry_state(image, m, k), k, used);
+        return faulty_verdict(entry_state(image, shape, first, k), k, used);
     }
     if condition == condition::UNUSED {
-        return unused_verdict(image, m, k, used);
+        return unused_verdict(image, shape, k, used);
     }
     condition
 }
@@ -109,18 +110,20 @@ fn fill_epochs(seen: &[u32; MAX_SLOTS], epochs: &mut [u32])
 // Gives the caller the verdicts of its slots.
 fn fill_verdicts(
     image: &[u8],
-    m: usize,
+    shape: Shape,
+    first: u32,
     conditions: &[u8; MAX_SLOTS],
     used: usize,
     verdicts: &mut [u8],
 )
-    requires { ⌜ (m ≤ 64) × (length (now image) ≡ imageSize m) × (length (now verdicts) ≡ m) ⌝ }
-    ensures { λ _. ⌜ ((c n : ℕ) → Marked m (decodeImage c n m (now (image .entry))) used (now (conditions .entry))
-        → now (verdicts .exit) ≡ verdictsOf m (decodeImage c n m (now (image .entry)))) ⌝ }
+    requires { ⌜ (shape .m ≤ 64) × (entryAt shape (shape .m) ≤ length (now image)) × (length (now verdicts) ≡ shape .m) ⌝ }
+    ensures { λ _. ⌜ ((c : ℕ) → Marked (shape .m) (decodeUnder shape c first (now (image .entry))) used (now (conditions .entry))
+        → now (verdicts .exit) ≡ verdictsOf (shape .m) (decodeUnder shape c first (now (image .entry)))) ⌝ }
 {
+    let m = shape.m;
     let mut k: usize = 0;
     while k < m {
-        verdicts[k] = verdict(image, m, conditions[k], k, used);
+        verdicts[k] = verdict(image, shape, first, conditions[k], k, used);
         k += 1;
     }
 }
@@ -128,18 +131,18 @@ fn fill_verdicts(
 // Reads an image: its log's length, and into the lent buffers the epoch and the verdict of each slot.
 pub fn read_image(
     image: &[u8],
+    shape: Shape,
     replica: usize,
-    n: usize,
-    m: usize,
     epochs: &mut [u32],
     verdicts: &mut [u8],
 ) -> ReadAnswer
     ensures { λ r. ⌜ (readNumbers r
-        ≡ readCallNumbers replica n m (now (image .entry)) (length (now (epochs .entry))) (length (now (verdicts .entry))))
-        × (now (epochs .exit) ≡ epochsLeft replica n m (now (image .entry)) (now (epochs .entry)) (length (now (verdicts .entry))))
-        × (now (verdicts .exit) ≡ verdictsLeft replica n m (now (image .entry)) (length (now (epochs .entry))) (now (verdicts .entry))) ⌝ }
+        ≡ readCallNumbers shape replica (now (image .entry)) (length (now (epochs .entry))) (length (now (verdicts .entry))))
+        × (now (epochs .exit) ≡ epochsLeft shape replica (now (image .entry)) (now (epochs .entry)) (length (now (verdicts .entry))))
+        × (now (verdicts .exit) ≡ verdictsLeft shape replica (now (image .entry)) (length (now (epochs .entry))) (now (verdicts .entry))) ⌝ }
 {
-    let view = open_image(image, replica, n, m);
+    let m = shape.m;
+    let view = open_image(image, shape, replica);
     let refusal = view.refusal;
     if refusal != 0 {
         return ReadAnswer::Refused(refusal);
@@ -150,11 +153,12 @@ pub fn read_image(
     if verdicts.len() != m {
         return ReadAnswer::Refused(13);
     }
+    let first = view.first;
     let used = view.length;
     let conditions = view.conditions;
     let seen = view.epochs;
     fill_epochs(&seen, epochs);
-    fill_verdicts(image, m, &conditions, used, verdicts);
+    fill_verdicts(image, shape, first, &conditions, used, verdicts);
     ReadAnswer::Length(used)
 }
 
@@ -173,10 +177,11 @@ fn holds_payload(conditions: &[u8; MAX_SLOTS], m: usize, slot: usize) -> bool
 }
 
 // Whether a slot has a payload.
-pub fn has_payload(image: &[u8], replica: usize, n: usize, m: usize, slot: usize) -> PayloadAnswer
-    ensures { λ r. ⌜ payloadNumbers r ≡ payloadCallNumbers replica n m (now (image .entry)) slot ⌝ }
+pub fn has_payload(image: &[u8], shape: Shape, replica: usize, slot: usize) -> PayloadAnswer
+    ensures { λ r. ⌜ payloadNumbers r ≡ payloadCallNumbers shape replica (now (image .entry)) slot ⌝ }
 {
-    let view = open_image(image, replica, n, m);
+    let m = shape.m;
+    let view = open_image(image, shape, replica);
     let refusal = view.refusal;
     if refusal != 0 {
         return PayloadAnswer::Refused(refusal);
@@ -189,21 +194,21 @@ pub fn has_payload(image: &[u8], replica: usize, n: usize, m: usize, slot: usize
 }
 
 // Where the payload of slot k, counted from 0, stands if it is whole.
-fn entry_span(image: &[u8], m: usize, k: usize) -> Span
-    requires { ⌜ (m ≤ 64) × (k < m) × (length (now image) ≡ imageSize m) ⌝ }
+fn entry_span(image: &[u8], shape: Shape, first: u32, k: usize) -> Span
+    requires { ⌜ (shape .m ≤ 64) × (k < shape .m) × (entryAt shape (shape .m) ≤ length (now image)) ⌝ }
     ensures { λ r. ⌜ SpanIn (length (now (image .entry))) (r .start) (r .end)
-        × ((c n : ℕ) → isWhole (conditionAt (decodeImage c n m (now (image .entry))) k) ≡ true
-        → (part (now (image .entry)) (r .start) (r .end - r .start) ≡ entryPayload (part (now (image .entry)) (entryAt m k) entrySize))
-        × (r .start ≡ entryAt m k + 26)) ⌝ }
+        × ((c : ℕ) → isWhole (conditionAt (decodeUnder shape c first (now (image .entry))) k) ≡ true
+        → (part (now (image .entry)) (r .start) (r .end - r .start) ≡ entryPayload (part (now (image .entry)) (entryAt shape k) entrySize))
+        × (r .start ≡ entryAt shape k + 26)) ⌝ }
 {
     let EntryState::Intact {
         epoch: _epoch,
         size,
-    } = entry_state(image, m, k)
+    } = entry_state(image, shape, first, k)
     else {
         return Span { start: 0, end: 0 };
     };
-    let start = entry_at(m, k) + PAYLOAD_AT;
+    let start = entry_at(shape, k) + PAYLOAD_AT;
     Span {
         start,
         end: start + size,
@@ -211,28 +216,30 @@ fn entry_span(image: &[u8], m: usize, k: usize) -> Span
 }
 
 // Where the payload of a slot stands, or an empty span at 0.
-pub fn payload_span(image: &[u8], replica: usize, n: usize, m: usize, slot: usize) -> Span
+pub fn payload_span(image: &[u8], shape: Shape, replica: usize, slot: usize) -> Span
     ensures { λ r. ⌜ SpanIn (length (now (image .entry))) (r .start) (r .end)
-        × ((part (now (image .entry)) (r .start) (r .end - r .start) ≡ payloadOf replica n m (now (image .entry)) slot)
-        × (r .start ≡ payloadAt replica n m (now (image .entry)) slot)) ⌝ }
+        × ((part (now (image .entry)) (r .start) (r .end - r .start) ≡ payloadOf shape replica (now (image .entry)) slot)
+        × (r .start ≡ payloadAt shape replica (now (image .entry)) slot)) ⌝ }
 {
-    let view = open_image(image, replica, n, m);
+    let m = shape.m;
+    let view = open_image(image, shape, replica);
     let refusal = view.refusal;
     if refusal != 0 {
         return Span { start: 0, end: 0 };
     }
+    let first = view.first;
     let conditions = view.conditions;
     if !holds_payload(&conditions, m, slot) {
         return Span { start: 0, end: 0 };
     }
-    entry_span(image, m, slot - 1)
+    entry_span(image, shape, first, slot - 1)
 }
 
 // The payload of a slot: its part of the image, or the empty part.
-pub fn payload_of(image: &[u8], replica: usize, n: usize, m: usize, slot: usize) -> &[u8]
-    ensures { λ r. ⌜ now r ≡ payloadOf replica n m (now (image .entry)) slot ⌝ }
+pub fn payload_of(image: &[u8], shape: Shape, replica: usize, slot: usize) -> &[u8]
+    ensures { λ r. ⌜ now r ≡ payloadOf shape replica (now (image .entry)) slot ⌝ }
 {
-    let span = payload_span(image, replica, n, m, slot);
+    let span = payload_span(image, shape, replica, slot);
     let start = span.start;
     let end = span.end;
     &image[start..end]

@@ -9,7 +9,8 @@ use Rattle.slices.specs.Parts.{Bytes, part}
 use Rattle.slices.proofs.PartLaws.{part-middle}
 use Rattle.column.specs.Column.{column, valueOf}
 use Rattle.column.proofs.ColumnLaws.{length-column, value-column, column-injective}
-use Rattle.record.specs.Layout.{sealed, fixedWord, headerBytes, recordBytes, blankRecord, padded, entryBytes, freshEntry}
+use Rattle.record.specs.declared.Shape.{Shape}
+use Rattle.record.specs.Layout.{headerSize, sealed, fixedWord, headerBytes, recordBytes, blankRecord, padded, entryBytes, freshEntry}
 
 -- ---- lengths
 
@@ -17,9 +18,13 @@ pub length-sealed : (b : Bytes) → length (sealed b) ≡ length b + 12
 unfolding sealed
 length-sealed b = simp (length-append, length-column)
 
-pub length-header : (c n m : ℕ) → length (headerBytes c n m) ≡ 28
-unfolding headerBytes
-length-header c n m = simp (length-sealed, length-append, length-column)
+pub header-size-is : (Z : Shape) → headerSize Z ≡ 28
+unfolding headerSize
+header-size-is Z = refl
+
+pub length-header : (Z : Shape) (c : ℕ) → length (headerBytes Z c) ≡ headerSize Z
+unfolding headerBytes headerSize
+length-header Z c = simp (length-sealed, length-append, length-column)
 
 pub length-record : (e k : ℕ) → length (recordBytes e k) ≡ 34
 unfolding recordBytes
@@ -60,15 +65,15 @@ column-apart w x y r s hx hy e =
 
 -- ---- what is written determines what it was written from
 
-pub header-determined : (c n m c′ n′ m′ : ℕ) → c < 1000 → n < 1000 → m < 1000 → c′ < 1000 → n′ < 1000 → m′ < 1000
-    → headerBytes c n m ≡ headerBytes c′ n′ m′ → (c ≡ c′) × (n ≡ n′) × (m ≡ m′)
+pub header-determined : (Z Y : Shape) (c d : ℕ) → c < 1000 → Z .n < 1000 → Z .m < 1000 → d < 1000 → Y .n < 1000 → Y .m < 1000
+    → headerBytes Z c ≡ headerBytes Y d → (c ≡ d) × (Z .n ≡ Y .n) × (Z .m ≡ Y .m)
 unfolding headerBytes sealed
-header-determined c n m c′ n′ m′ hc hn hm hc′ hn′ hm′ h =
+header-determined Z Y c d hc hn hm hd hn′ hm′ h =
     let z = front-apart fixedWord _ fixedWord _ refl (simp append-assoc at h) in
     let a = column-apart 3 1 1 _ _ (omega arith) (omega arith) (z .1) in
-    let b = column-apart 3 c c′ _ _ (omega arith) (omega arith) (a .1) in
-    let d = column-apart 3 n n′ _ _ (omega arith) (omega arith) (b .1) in
-    (b .0, d .0, column-apart 3 m m′ _ _ (omega arith) (omega arith) (d .1) .0)
+    let b = column-apart 3 c d _ _ (omega arith) (omega arith) (a .1) in
+    let x = column-apart 3 (Z .n) (Y .n) _ _ (omega arith) (omega arith) (b .1) in
+    (b .0, x .0, column-apart 3 (Z .m) (Y .m) _ _ (omega arith) (omega arith) (x .1) .0)
 
 pub record-determined : (e k e′ k′ : ℕ) → e < 10 ^ 11 → k < 10 ^ 11 → e′ < 10 ^ 11 → k′ < 10 ^ 11
     → recordBytes e k ≡ recordBytes e′ k′ → (e ≡ e′) × (k ≡ k′)

@@ -11,7 +11,8 @@ use Rattle.slices.proofs.SpliceLaws.{length-spliced, drop-spliced}
 use Rattle.checksum.specs.Checksum.{checksumOf}
 use Rattle.column.specs.Column.{column}
 use Rattle.column.proofs.ColumnLaws.{length-column}
-use Rattle.record.specs.Layout.{sealed, fixedWord, headerBytes, recordBytes, blankRecord, padded, entryBytes, freshEntry}
+use Rattle.record.specs.declared.Shape.{Shape}
+use Rattle.record.specs.Layout.{headerSize, sealed, fixedWord, headerBytes, recordBytes, blankRecord, padded, entryBytes, freshEntry}
 use Rattle.record.specs.Seal.{sealOf}
 use Rattle.record.proofs.LayoutLaws.{length-sealed}
 use Rattle.record.proofs.JudgeLaws.{length-seal, sealed-is}
@@ -97,22 +98,22 @@ module _ (s₀ : Bytes) where
       let w₃ = closed 34 22 w₂ l (omega arith) h₃ in
       whole w₃ (length-sealed (column 11 e ++ column 11 k) ∙ omega arith)
 
-  pub header-written : (c n m : ℕ) (s₁ s₂ s₃ s₄ s₅ s₆ : Bytes) → length s₀ ≡ 28 → s₁ ≡ spliced s₀ 0 fixedWord → s₂ ≡ spliced s₁ 4 (column 3 1)
-      → s₃ ≡ spliced s₂ 7 (column 3 c) → s₄ ≡ spliced s₃ 10 (column 3 n) → s₅ ≡ spliced s₄ 13 (column 3 m)
-      → s₆ ≡ spliced s₅ 16 (sealOf (take 16 s₅)) → s₆ ≡ headerBytes c n m
-  unfolding headerBytes
-  header-written c n m s₁ s₂ s₃ s₄ s₅ s₆ h h₁ h₂ h₃ h₄ h₅ h₆ =
+  pub header-written : (Z : Shape) (c : ℕ) (s₁ s₂ s₃ s₄ s₅ s₆ : Bytes) → length s₀ ≡ headerSize Z → s₁ ≡ spliced s₀ 0 fixedWord → s₂ ≡ spliced s₁ 4 (column 3 1)
+      → s₃ ≡ spliced s₂ 7 (column 3 c) → s₄ ≡ spliced s₃ 10 (column 3 (Z .n)) → s₅ ≡ spliced s₄ 13 (column 3 (Z .m))
+      → s₆ ≡ spliced s₅ 16 (sealOf (take 16 s₅)) → s₆ ≡ headerBytes Z c
+  unfolding headerBytes headerSize
+  header-written Z c s₁ s₂ s₃ s₄ s₅ s₆ h h₁ h₂ h₃ h₄ h₅ h₆ =
       let l1 = length-column 3 1 in
       let lc = length-column 3 c in
-      let ln = length-column 3 n in
-      let lm = length-column 3 m in
+      let ln = length-column 3 (Z .n) in
+      let lm = length-column 3 (Z .m) in
       let w₁ = then 28 0 fixedWord (start 28 s₀ h) refl (omega arith) h₁ in
       let w₂ = then 28 4 (column 3 1) w₁ refl (omega arith) h₂ in
       let w₃ = then 28 7 (column 3 c) w₂ (simp length-append (omega arith)) (omega arith) h₃ in
-      let w₄ = then 28 10 (column 3 n) w₃ (simp length-append (omega arith)) (omega arith) h₄ in
-      let w₅ = then 28 13 (column 3 m) w₄ (simp length-append (omega arith)) (omega arith) h₅ in
-      let all : ((((fixedWord ++ column 3 1) ++ column 3 c) ++ column 3 n) ++ column 3 m) ≡ fixedWord ++ (column 3 1 ++ (column 3 c ++ (column 3 n ++ column 3 m))) = simp append-assoc in
-      let l : length (((((fixedWord ++ column 3 1) ++ column 3 c) ++ column 3 n) ++ column 3 m)) ≡ 16 = simp length-append (omega arith) in
+      let w₄ = then 28 10 (column 3 (Z .n)) w₃ (simp length-append (omega arith)) (omega arith) h₄ in
+      let w₅ = then 28 13 (column 3 (Z .m)) w₄ (simp length-append (omega arith)) (omega arith) h₅ in
+      let all : ((((fixedWord ++ column 3 1) ++ column 3 c) ++ column 3 (Z .n)) ++ column 3 (Z .m)) ≡ fixedWord ++ (column 3 1 ++ (column 3 c ++ (column 3 (Z .n) ++ column 3 (Z .m)))) = simp append-assoc in
+      let l : length (((((fixedWord ++ column 3 1) ++ column 3 c) ++ column 3 (Z .n)) ++ column 3 (Z .m))) ≡ 16 = simp length-append (omega arith) in
       let w₆ = closed 28 16 w₅ l (omega arith) h₆ in
       whole w₆ (length-sealed _ ∙ omega arith) ∙ ap sealed all
 

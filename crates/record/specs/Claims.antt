@@ -4,14 +4,15 @@ use mathlib.Core.Path.{_≡_}
 use mathlib.Core.Bool.{true}
 use lib.ListN.{length, getD, set}
 use Rattle.slices.specs.Parts.{Bytes}
+use Rattle.record.specs.declared.Shape.{Shape}
 use Rattle.record.specs.Layout.{headerBytes, recordBytes, entryBytes}
 use Rattle.record.specs.Meaning.{Header, proper, Record, good, Entry, intact, broken, isEpoch, readHeader, readRecord, readEntry}
 use Rattle.record.specs.Exactly.{HeaderIs, RecordIs, EntryIs}
 
 -- the judges say exactly what 01 says: good, blank, bad; intact or not; the writer's header or not
 pub record Exact : Type 0 where
-  pub header-is : (c n m : ℕ) (b : Bytes) → HeaderIs c n m b (readHeader c n m b)
-  pub header-only : (c n m : ℕ) (b : Bytes) (h : Header) → HeaderIs c n m b h → readHeader c n m b ≡ h
+  pub header-is : (Z : Shape) (c : ℕ) (b : Bytes) → HeaderIs Z c b (readHeader Z c b)
+  pub header-only : (Z : Shape) (c : ℕ) (b : Bytes) (h : Header) → HeaderIs Z c b h → readHeader Z c b ≡ h
   pub record-is : (k : ℕ) (b : Bytes) → RecordIs k b (readRecord k b)
   pub record-only : (k : ℕ) (b : Bytes) (r : Record) → RecordIs k b r → readRecord k b ≡ r
   pub entry-is : (k : ℕ) (b : Bytes) → EntryIs k b (readEntry k b)
@@ -19,11 +20,11 @@ pub record Exact : Type 0 where
 
 -- what is written is read back, and determines what it was written from
 pub record RoundTrip : Type 0 where
-  pub header-back : (c n m : ℕ) → readHeader c n m (headerBytes c n m) ≡ proper
+  pub header-back : (Z : Shape) (c : ℕ) → readHeader Z c (headerBytes Z c) ≡ proper
   pub record-back : (k e : ℕ) → isEpoch e ≡ true → readRecord k (recordBytes e k) ≡ good e
   pub entry-back : (k e : ℕ) (p : Bytes) → isEpoch e ≡ true → length p ≤ 200 → readEntry k (entryBytes e k p) ≡ intact e p
-  pub header-determined : (c n m c′ n′ m′ : ℕ) → c < 1000 → n < 1000 → m < 1000 → c′ < 1000 → n′ < 1000 → m′ < 1000
-      → headerBytes c n m ≡ headerBytes c′ n′ m′ → (c ≡ c′) × (n ≡ n′) × (m ≡ m′)
+  pub header-determined : (Z Y : Shape) (c d : ℕ) → c < 1000 → Z .n < 1000 → Z .m < 1000 → d < 1000 → Y .n < 1000 → Y .m < 1000
+      → headerBytes Z c ≡ headerBytes Y d → (c ≡ d) × (Z .n ≡ Y .n) × (Z .m ≡ Y .m)
   pub record-determined : (e k e′ k′ : ℕ) → e < 10 ^ 11 → k < 10 ^ 11 → e′ < 10 ^ 11 → k′ < 10 ^ 11
       → recordBytes e k ≡ recordBytes e′ k′ → (e ≡ e′) × (k ≡ k′)
   pub entry-determined : (e k : ℕ) (p : Bytes) (e′ k′ : ℕ) (p′ : Bytes) → e < 10 ^ 11 → k < 10 ^ 11 → length p ≤ 200

@@ -4,6 +4,7 @@ use mathlib.Core.Path.{_≡_}
 use mathlib.Core.Bool.{true}
 use lib.ListN.{length}
 use Rattle.slices.specs.Parts.{Bytes}
+use Rattle.record.specs.declared.Shape.{Shape}
 use Rattle.record.specs.Layout.{headerBytes, recordBytes, blankRecord, entryBytes}
 use Rattle.record.specs.Meaning.{Header, proper, improper, Record, good, blank, bad, Entry, intact, broken, isEpoch}
 
@@ -24,9 +25,9 @@ pub record IntactFor (k e : ℕ) (p b : Bytes) : Type 0 where
   pub bytes : b ≡ entryBytes e k p
 
 -- what each meaning says of the bytes: a reader gives a meaning exactly if this holds of it
-abbrev pub HeaderIs : ℕ → ℕ → ℕ → Bytes → Header → Type 0
-HeaderIs c n m b proper = b ≡ headerBytes c n m
-HeaderIs c n m b (improper z) = (z ≡ b) × ¬ (b ≡ headerBytes c n m)
+abbrev pub HeaderIs : Shape → ℕ → Bytes → Header → Type 0
+HeaderIs Z c b proper = b ≡ headerBytes Z c
+HeaderIs Z c b (improper z) = (z ≡ b) × ¬ (b ≡ headerBytes Z c)
 
 abbrev pub RecordIs : ℕ → Bytes → Record → Type 0
 RecordIs k b (good e) = GoodFor k e b

@@ -1,12 +1,19 @@
 -- What the judges answer.
 use lib.ListN.{length}
-use Rattle.record.specs.Meaning.{Record, good, blank, bad, Entry, intact, broken}
+use Rattle.record.specs.Meaning.{Header, proper, improper, firstIndex, Record, good, blank, bad, Entry, intact, broken}
+use Rattle.record.specs.declared.HeaderState.{HeaderState}
+use Rattle.record.specs.declared.HeaderState.the-variants.{Proper, Improper}
 use Rattle.record.specs.declared.RecordState.{RecordState}
 use Rattle.record.specs.declared.RecordState.the-variants.{Good, Blank, Bad}
 use Rattle.record.specs.declared.EntryState.{EntryState}
 use Rattle.record.specs.declared.EntryState.the-variants.{Intact, Broken}
 
--- a record's meaning as the judge answers it
+-- a header's meaning as the judge answers it: the writer's, by the first index that it gives, or not
+unfoldable pub headerAnswer : Header → HeaderState
+headerAnswer proper = Proper (firstIndex proper)
+headerAnswer (improper b) = Improper
+
+-- a record's
 unfoldable pub recordAnswer : Record → RecordState
 recordAnswer (good e) = Good e
 recordAnswer blank = Blank

@@ -5,10 +5,15 @@ use lib.ListN.{length, replicate}
 use Rattle.slices.specs.Parts.{Bytes}
 use Rattle.checksum.specs.Checksum.{checksumOf}
 use Rattle.column.specs.Column.{column}
+use Rattle.record.specs.declared.Shape.{Shape}
 
--- the sizes in bytes of 01's head, line and cell, and of the longest payload
-abbrev pub headerSize : ℕ
-headerSize = 28
+-- a shape by its numbers
+abbrev pub shapeOf : ℕ → ℕ → Shape
+shapeOf n m = record { n = n; m = m }
+
+-- the sizes in bytes of 01's head, line and cell, and of the longest payload. A header's is that of a shape
+unfoldable pub headerSize : Shape → ℕ
+headerSize Z = 28
 
 abbrev pub recordSize : ℕ
 recordSize = 34
@@ -28,8 +33,8 @@ abbrev pub fixedWord : Bytes
 fixedWord = 114 ∷ 111 ∷ 112 ∷ 101 ∷ []
 
 -- 01's head: `rope`, edition 1, replica c, n, m
-unfoldable pub headerBytes : ℕ → ℕ → ℕ → Bytes
-headerBytes c n m = sealed (fixedWord ++ (column 3 1 ++ (column 3 c ++ (column 3 n ++ column 3 m))))
+unfoldable pub headerBytes : Shape → ℕ → Bytes
+headerBytes Z c = sealed (fixedWord ++ (column 3 1 ++ (column 3 c ++ (column 3 (Z .n) ++ column 3 (Z .m)))))
 
 -- 01's line, of an epoch and an index
 unfoldable pub recordBytes : ℕ → ℕ → Bytes

@@ -6,9 +6,10 @@ use lib.ListN.{length}
 use Rattle.slices.specs.Parts.{Bytes, part}
 use Rattle.slices.specs.Same.{same}
 use Rattle.column.specs.Column.{valueOf}
+use Rattle.record.specs.declared.Shape.{Shape}
 use Rattle.record.specs.Layout.{headerBytes, recordBytes, blankRecord, entryBytes}
 
--- 01's head: the writer's for this replica, n and m, or other bytes
+-- 01's head: the writer's for this shape and replica, or other bytes
 pub data Header : Type 0 where
   proper : Header
   improper : Bytes → Header
@@ -28,12 +29,17 @@ pub data Entry : Type 0 where
 unfoldable pub isEpoch : ℕ → Bool
 isEpoch e = leb 1 e && leb e 4294967295
 
-unfoldable pub readHeader : ℕ → ℕ → ℕ → Bytes → Header
-readHeader c n m b = cond (same b (headerBytes c n m)) proper (improper b)
+-- the index of the first slot, as the header gives it: logs begin at 1. Bytes that are no header give none, and count as giving 1
+unfoldable pub firstIndex : Header → ℕ
+firstIndex proper = 1
+firstIndex (improper b) = 1
 
-unfoldable pub writeHeader : ℕ → ℕ → ℕ → Header → Bytes
-writeHeader c n m proper = headerBytes c n m
-writeHeader c n m (improper b) = b
+unfoldable pub readHeader : Shape → ℕ → Bytes → Header
+readHeader Z c b = cond (same b (headerBytes Z c)) proper (improper b)
+
+unfoldable pub writeHeader : Shape → ℕ → Header → Bytes
+writeHeader Z c proper = headerBytes Z c
+writeHeader Z c (improper b) = b
 
 -- judged by writing: the only epoch that the columns could mean, and what the writer writes for it
 unfoldable pub isGood : ℕ → ℕ → Bytes → Bool

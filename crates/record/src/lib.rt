@@ -1,6 +1,18 @@
 // Headers, records and entries: definitions and laws. The code is `write`'s and `judge`'s.
 ghost use Rattle.record.specs.Claims.{Exact, RoundTrip, ChangedPayload};
 
+// What a call names of its cluster: n replicas of m slots each.
+pub struct Shape {
+    pub n: usize,
+    pub m: usize,
+}
+
+// What a header is found to be: the writer's, with the index of the first slot, or not.
+pub enum HeaderState {
+    Proper(u32),
+    Improper,
+}
+
 // What a record is found to be.
 pub enum RecordState {
     Good(u32),

@@ -11,6 +11,7 @@ use Rattle.search.specs.Search.{lowest}
 use Rattle.search.proofs.SearchLaws.{lowest-is}
 use Rattle.slices.specs.Parts.{Bytes}
 use Rattle.slices.proofs.SameLaws.{and-off}
+use Rattle.record.specs.declared.Shape.{Shape}
 use Rattle.image.specs.View.{View}
 use Rattle.image.specs.Cluster.{Cluster, decode}
 use Rattle.image.proofs.ClusterLaws.{image-fits}
@@ -23,13 +24,12 @@ use Rattle.protocol.specs.Store.{Store}
 use Rattle.protocol.specs.Recovery.{_or_, followerStore, isSome, firstOf, unlike, due, followersStore}
 use Rattle.image.specs.Fits.{ImageFits}
 use Rattle.recovery.specs.Look.{Looked, InRange}
-use Rattle.recovery.specs.declared.Shape.{Shape}
 
 -- ---- one replica
 
 module _ {S : Setting} {W : ℕ → View} {n leader : ℕ} {s : Survey} (v : SurveyIs S W n leader s) where
-  pub looked : {m : ℕ} → S .m ≡ m → (c : ℕ) → c < n → W c .readable ≡ true → Looked m (W c) c (getD (s .lengths) c 0) (s .conditions) (s .epochs)
-  looked em c h r = rw (← em) (record {
+  pub looked : {Z : Shape} → S .shape ≡ Z → (c : ℕ) → c < n → W c .readable ≡ true → Looked (Z .m) (W c) c (getD (s .lengths) c 0) (s .conditions) (s .epochs)
+  looked ez c h r = rw (← ez) (record {
     length-is = v .surveyed .length-is c h r;
     log-fits = v .logs-fit c;
     condition-is = λ k l. v .surveyed .condition-is c k h l r;
@@ -37,21 +37,21 @@ module _ {S : Setting} {W : ℕ → View} {n leader : ℕ} {s : Survey} (v : Sur
   })
 
   -- the leader's
-  pub looked-leader : {m : ℕ} → S .m ≡ m → Looked m (W leader) leader (getD (s .lengths) leader 0) (s .conditions) (s .epochs)
-  looked-leader em = looked em leader (v .leader-below) (v .leader-reads)
+  pub looked-leader : {Z : Shape} → S .shape ≡ Z → Looked (Z .m) (W leader) leader (getD (s .lengths) leader 0) (s .conditions) (s .epochs)
+  looked-leader ez = looked ez leader (v .leader-below) (v .leader-reads)
 
 module _ (S : Setting) (b : Bytes) where
   module _ (c : ℕ) where
-    pub due-leader : (leader : ℕ) → S .leader ≡ leader → c ≡ leader → none ≡ due S (decode (S .n) (S .m) b) c
+    pub due-leader : (leader : ℕ) → S .leader ≡ leader → c ≡ leader → none ≡ due S (decode (S .shape) b) c
     unfolding due answers
     due-leader leader el e = rw (eq-eqb c (S .leader) (e ∙ sym el))
 
-    pub due-silent : viewsIn S b c .readable ≡ false → none ≡ due S (decode (S .n) (S .m) b) c
+    pub due-silent : viewsIn S b c .readable ≡ false → none ≡ due S (decode (S .shape) b) c
     unfolding due answers viewsIn
     due-silent e = rw (e, and-off (not (eqb c (S .leader))))
 
     pub due-answers : (leader : ℕ) → S .leader ≡ leader → (c ≡ leader → ⊥) → viewsIn S b c .readable ≡ true → {o : Option Store}
-        → o ≡ followerStore S (viewsIn S b) (unlike S (decode (S .n) (S .m) b) c) c → o ≡ due S (decode (S .n) (S .m) b) c
+        → o ≡ followerStore S (viewsIn S b) (unlike S (decode (S .shape) b) c) c → o ≡ due S (decode (S .shape) b) c
     unfolding due answers viewsIn
     due-answers leader el h r e = rw (ne-eqb c (S .leader) (λ q. h (q ∙ el)), r) e
 
@@ -65,7 +65,7 @@ first-is : (f : ℕ → Option Store) (b c : ℕ) → lowest (λ j. isSome (f j)
 unfolding firstOf
 first-is f b c q = ap (λ (x : ℕ). cond (ltb x b) (f x) none) q
 
-module _ (S : Setting) (F : Cluster) (n : ℕ) (en : S .n ≡ n) where
+module _ (S : Setting) (F : Cluster) (n : ℕ) (en : S .shape .n ≡ n) where
   first-of : (c : ℕ) → lowest (λ j. isSome (due S F j)) n ≡ c → followersStore S F ≡ cond (ltb c n) (due S F c) none
   unfolding followersStore
   first-of c q = ap (firstOf (due S F)) en ∙ first-is (due S F) n c q
@@ -94,5 +94,5 @@ or-follower (some s) a b p e t f = absurd (let z : _≡_ {A = ℕ} 0 1 = cc in o
 
 -- ---- the images lie in the buffer
 
-pub image-within : {shape : Shape} {s : Survey} {size : ℕ} → InRange shape s size → (c : ℕ) → c < shape .n → ImageFits (shape .m) size c
-image-within {shape} v c h = omega (arith, image-fits (shape .n) (shape .m) c h, v .size-is)
+pub image-within : {Z : Shape} {leader : ℕ} {s : Survey} {size : ℕ} → InRange Z leader s size → (c : ℕ) → c < Z .n → ImageFits Z size c
+image-within {Z} v c h = omega (arith, image-fits Z (Z .n) c h, v .size-is)

@@ -39,12 +39,12 @@ module _ (S : Setting) (W : ℕ → View) (leader : ℕ) where
   three = ifBelow lost (end S W) (storeRecord leader lost (W leader .epoch lost))
 
   module _ (el : S .leader ≡ leader) (length : ℕ) (conditions epochs bytes : List ℕ) (final waiting : ℕ)
-      (x : Looked (S .m) (W leader) leader length conditions epochs) (p : Planned S W bytes final waiting) where
+      (x : Looked (S .shape .m) (W leader) leader length conditions epochs) (p : Planned S W bytes final waiting) where
     whole : leaderStore S W ≡ (one or two or three)
     unfolding leaderStore
     whole = rw el
 
-    fits : W (S .leader) .length ≤ S .m
+    fits : W (S .leader) .length ≤ S .shape .m
     fits = rw el (x .log-fits)
 
     fetch-is : {f : ℕ} → f ≡ lowest (λ k. ltb 10 (getD bytes k 0)) final → f ≡ fetch

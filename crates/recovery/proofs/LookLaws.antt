@@ -70,12 +70,12 @@ donor-byte Truncate a d e = absurd (let z : _≡_ {A = ℕ} 0 1 = cc in omega ar
 donor-byte Wait a d e = absurd (let z : _≡_ {A = ℕ} 0 1 = cc in omega arith)
 
 module _ (S : Setting) (W : ℕ → View) where
-  module _ {bytes : List ℕ} {final waiting : ℕ} (p : Planned S W bytes final waiting) (fits : W (S .leader) .length ≤ S .m) where
+  module _ {bytes : List ℕ} {final waiting : ℕ} (p : Planned S W bytes final waiting) (fits : W (S .leader) .length ≤ S .shape .m) where
     byte-at : (k : ℕ) → k < end S W → getD bytes k 0 ≡ ruleByte (rule S W k) (W (S .leader) .condition k) (donor S W k)
     unfolding planBytes planByte
     byte-at k h =
         let l = end-le S W in
-        taken-at (S .m) (planByte S W) bytes (p .bytes-are) k (omega arith)
+        taken-at (S .shape .m) (planByte S W) bytes (p .bytes-are) k (omega arith)
         ∙ rw (lt-ltb k (W (S .leader) .length) (omega arith), le-ltb (end S W) k (omega arith))
 
     pub fetch-found : lowest (λ k. ltb 10 (getD bytes k 0)) (end S W) ≡ lowest (λ k. isFetch (rule S W k)) (end S W)

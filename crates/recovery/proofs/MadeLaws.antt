@@ -8,9 +8,10 @@ use native.Mathlib.Omega.{arith}
 use types.Run.{OneOf, miss}
 use denote.Enum.Declared.{tagOf}
 use Rattle.slices.specs.Parts.{Bytes, part, spliced}
+use Rattle.record.specs.declared.Shape.{Shape}
 use Rattle.record.specs.Layout.{entrySize, recordBytes, blankRecord}
-use Rattle.image.specs.Image.{recordAt, entryAt}
-use Rattle.image.specs.Cluster.{imageAt}
+use Rattle.image.specs.Image.{index, recordAt, entryAt}
+use Rattle.image.specs.Cluster.{imageAt, firstAt}
 use Rattle.protocol.specs.Store.{Store}
 use Rattle.protocol.specs.Recovery.{after, isSome}
 use Rattle.protocol.specs.StepBytes.{afterStoreBytes}
@@ -19,31 +20,31 @@ use Rattle.recovery.specs.declared.NextStore.{NextStore}
 use Rattle.recovery.specs.declared.NextStore.the-variants.{Nothing, Entry, Record, Blank}
 use Rattle.recovery.proofs.NextStore.{the-type}
 
-module _ (m : ℕ) (b : Bytes) where
-  pub nothing-made : {s : NextStore} → s ≡ Nothing → b ≡ after (storeOf s) b (λ t. afterStoreBytes m t b)
+module _ (Z : Shape) (b : Bytes) where
+  pub nothing-made : {s : NextStore} → s ≡ Nothing → b ≡ after (storeOf s) b (λ t. afterStoreBytes Z t b)
   unfolding after
   nothing-made e = rw e
 
   -- copied to `to` from `from`
   pub entry-made : {s : NextStore} {c k d : ℕ} {a : Bytes} → s ≡ Entry c k d → (to from : ℕ) → to ≡ c → from ≡ d
-      → a ≡ spliced b (imageAt m to + entryAt m k) (part b (imageAt m from + entryAt m k) entrySize) → a ≡ after (storeOf s) b (λ t. afterStoreBytes m t b)
+      → a ≡ spliced b (imageAt Z to + entryAt Z k) (part b (imageAt Z from + entryAt Z k) entrySize) → a ≡ after (storeOf s) b (λ t. afterStoreBytes Z t b)
   unfolding after afterStoreBytes
   entry-made e to from i j h = rw (e, ← i, ← j) h
 
-  pub record-made : {s : NextStore} {c k e : ℕ} {a : Bytes} → s ≡ Record c k e → a ≡ spliced b (imageAt m c + recordAt k) (recordBytes e (suc k))
-      → a ≡ after (storeOf s) b (λ t. afterStoreBytes m t b)
+  pub record-made : {s : NextStore} {c k e : ℕ} {a : Bytes} → s ≡ Record c k e → a ≡ spliced b (imageAt Z c + recordAt Z k) (recordBytes e (index (firstAt Z b c) k))
+      → a ≡ after (storeOf s) b (λ t. afterStoreBytes Z t b)
   unfolding after afterStoreBytes
   record-made e h = rw e h
 
-  pub blank-made : {s : NextStore} {c k : ℕ} {a : Bytes} → s ≡ Blank c k → a ≡ spliced b (imageAt m c + recordAt k) blankRecord
-      → a ≡ after (storeOf s) b (λ t. afterStoreBytes m t b)
+  pub blank-made : {s : NextStore} {c k : ℕ} {a : Bytes} → s ≡ Blank c k → a ≡ spliced b (imageAt Z c + recordAt Z k) blankRecord
+      → a ≡ after (storeOf s) b (λ t. afterStoreBytes Z t b)
   unfolding after afterStoreBytes
   blank-made e h = rw e h
 
--- a record for slot k, where it stands
-pub record-placed : {a : Bytes} (b : Bytes) (e k : ℕ) {at to i : ℕ} → at ≡ to → i ≡ suc k → a ≡ spliced b at (recordBytes e i)
-    → a ≡ spliced b to (recordBytes e (suc k))
-record-placed b e k d q h = rw (← d, ← q) h
+-- a record for an index, where it stands
+pub record-placed : {a : Bytes} (b : Bytes) (e j : ℕ) {at to i : ℕ} → at ≡ to → i ≡ j → a ≡ spliced b at (recordBytes e i)
+    → a ≡ spliced b to (recordBytes e j)
+record-placed b e j d q h = rw (← d, ← q) h
 
 -- nothing, and a store
 

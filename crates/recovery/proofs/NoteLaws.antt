@@ -25,7 +25,7 @@ module _ (S : Setting) (W : ℕ → View) (c k l : ℕ) (a : Condition) (e : ℕ
   unfolding withSlot
   readable-kept d = put-case (λ (v : View). v .readable ≡ W d .readable) W c (withSlot (W c) k l a e) d (λ q. rw q) (λ q. refl)
 
-  module _ (n leader : ℕ) (s r : Survey) (t : SlotSet s r c k l (conditionNumber a) e) (cn : c < n) (km : k < S .m) (on : W c .readable ≡ true) (lm : l ≤ S .m)
+  module _ (n leader : ℕ) (s r : Survey) (t : SlotSet s r c k l (conditionNumber a) e) (cn : c < n) (km : k < S .shape .m) (on : W c .readable ≡ true) (lm : l ≤ S .shape .m)
       (f : SurveyOf S W n leader (s .readable) (s .lengths) (s .conditions) (s .epochs)) where
     length-set : (d : ℕ) → d < n → U d .readable ≡ true → getD (r .lengths) d 0 ≡ U d .length
     unfolding withSlot
@@ -34,7 +34,7 @@ module _ (S : Setting) (W : ℕ → View) (c k l : ℕ) (a : Condition) (e : ℕ
         (λ q. rw q (getD-set-same (s .lengths) c l 0 (omega (arith, t .lengths-sized, f .few))))
         (λ q. getD-set-other (s .lengths) c d l 0 q ∙ f .surveyed .length-is d h (sym (readable-kept d) ∙ ok)))
 
-    condition-set : (d j : ℕ) → d < n → j < S .m → U d .readable ≡ true → getD (r .conditions) (d * 64 + j) 0 ≡ conditionNumber (U d .condition j)
+    condition-set : (d j : ℕ) → d < n → j < S .shape .m → U d .readable ≡ true → getD (r .conditions) (d * 64 + j) 0 ≡ conditionNumber (U d .condition j)
     unfolding withSlot
     condition-set d j h b ok =
         rw (t .conditions) (put-case (λ (v : View). getD (set (s .conditions) (c * 64 + k) (conditionNumber a)) (d * 64 + j) 0 ≡ conditionNumber (v .condition j)) W c (withSlot (W c) k l a e) d
@@ -43,7 +43,7 @@ module _ (S : Setting) (W : ℕ → View) (c k l : ℕ) (a : Condition) (e : ℕ
         (λ p. getD-set-other (s .conditions) (c * 64 + k) (c * 64 + j) (conditionNumber a) 0 (λ z. p (omega arith)) ∙ f .surveyed .condition-is c j cn b on)))
         (λ q. getD-set-other (s .conditions) (c * 64 + k) (d * 64 + j) (conditionNumber a) 0 (λ z. q (omega (arith, f .slots-fit))) ∙ f .surveyed .condition-is d j h b (sym (readable-kept d) ∙ ok)))
 
-    epoch-set : (d j : ℕ) → d < n → j < S .m → U d .readable ≡ true → getD (r .epochs) (d * 64 + j) 0 ≡ U d .epoch j
+    epoch-set : (d j : ℕ) → d < n → j < S .shape .m → U d .readable ≡ true → getD (r .epochs) (d * 64 + j) 0 ≡ U d .epoch j
     unfolding withSlot
     epoch-set d j h b ok =
         rw (t .epochs) (put-case (λ (v : View). getD (set (s .epochs) (c * 64 + k) e) (d * 64 + j) 0 ≡ v .epoch j) W c (withSlot (W c) k l a e) d
@@ -61,7 +61,7 @@ module _ (S : Setting) (W : ℕ → View) (c k l : ℕ) (a : Condition) (e : ℕ
       leader-below = f .leader-below;
       slots-fit = f .slots-fit;
       leader-reads = readable-kept leader ∙ f .leader-reads;
-      logs-fit = λ d. put-case (λ (v : View). v .length ≤ S .m) W c (withSlot (W c) k l a e) d (λ q. lm) (λ q. f .logs-fit d);
+      logs-fit = λ d. put-case (λ (v : View). v .length ≤ S .shape .m) W c (withSlot (W c) k l a e) d (λ q. lm) (λ q. f .logs-fit d);
       surveyed = record {
         readable-is = λ d h. rw (t .readables) (f .surveyed .readable-is d h) ∙ sym (readable-kept d);
         length-is = length-set;

@@ -36,24 +36,24 @@ pub noting-start : (N : Numbers) (b : Bytes) (leader budget : ℕ) (s : Survey) 
 noting-start N b leader budget s t i v = record { began = i; underway = underway-start N b budget t (i .0) (i .2); surveys = v }
 
 module _ (N : Numbers) {b₀ b : Bytes} {t₀ t : NextStore} {leader budget made : ℕ} {s : Survey} (g : Noting N b₀ t₀ leader budget made b s t) where
-  pub noting-fits : (N .m ≤ 64) × StoreFits (N .m) (length b) t
+  pub noting-fits : (N .shape .m ≤ 64) × StoreFits (N .shape) (length b) t
   noting-fits = let e = g .surveys .accepts in (slots-few N b e, store-fits N b e t (g .underway .is-next))
 
   pub noting-within : (u : Store) → storeOf t ≡ some u → (storeReplica u < 7) × (storeSlot u < 64)
   noting-within = store-within N b (g .surveys) (storeOf t) (g .underway .is-next)
 
-  module _ (some-left : isSome (storeOf t) ≡ true) {a : Bytes} (x : a ≡ after (storeOf t) b (λ u. afterStoreBytes (N .m) u b))
+  module _ (some-left : isSome (storeOf t) ≡ true) {a : Bytes} (x : a ≡ after (storeOf t) b (λ u. afterStoreBytes (N .shape) u b))
       {r : Survey} (f : (u : Store) → storeOf t ≡ some u → Noted u s r) where
     pub noted-ready : ReadySurvey N a leader r
     noted-ready = ready-after N b (g .surveys) (storeOf t) (g .underway .is-next) some-left x f
 
     -- replica c is the one that the store was made on
     module _ {c : ℕ} (q : (u : Store) → storeOf t ≡ some u → c ≡ storeReplica u) where
-      pub noted-replica : c < N .n
+      pub noted-replica : c < N .shape .n
       unfolding settingOf
       noted-replica = replica-within N b (g .surveys) (storeOf t) (g .underway .is-next) some-left q
 
-      pub noted-rests : (c ≡ leader → ⊥) → RestBelow (named N) (decode (N .n) (N .m) a) c
+      pub noted-rests : (c ≡ leader → ⊥) → RestBelow (named N) (decode (N .shape) a) c
       unfolding settingOf
       noted-rests = rest-after N b (g .surveys) (storeOf t) (g .underway .is-next) some-left q x
 

@@ -8,6 +8,7 @@ use lib.ListN.{length}
 use borrow.Author.Tests.{leb-true}
 use Rattle.slices.specs.Parts.{Bytes}
 use Rattle.slices.proofs.SameLaws.{and-right}
+use Rattle.record.specs.declared.Shape.{Shape}
 use Rattle.image.specs.View.{isSlots}
 use Rattle.image.specs.Cluster.{decode}
 use Rattle.image.proofs.ClusterLaws.{image-fits}
@@ -28,7 +29,8 @@ use Rattle.recovery.specs.declared.Outlook.{Outlook}
 use Rattle.recovery.specs.declared.Outlook.the-variants as outlook
 use Rattle.protocol.proofs.Due.{due-facts}
 use Rattle.protocol.proofs.Keeps.{due-target, due-slot, due-donor}
-use Rattle.planner.proofs.SeenLaws.{start-is}
+use Rattle.image.proofs.DecodeLaws.{size-some}
+use Rattle.image.proofs.ClusterLaws.{images-fill}
 use Rattle.protocol.proofs.CallLaws.{accepted, step-refused, step-kept, run-refused, run-kept, step-bytes, run-bytes}
 use Rattle.protocol.proofs.Reached.{waiting-none}
 use Rattle.protocol.proofs.StepCountLaws.{steps-still}
@@ -38,19 +40,19 @@ use Rattle.protocol.proofs.ReadyLaws.{ready-run, ready-step}
 -- ---- a store that is outstanding lies in the cluster
 
 module _ (N : Numbers) (b : Bytes) (e : refusalIn N b ≡ 0) where
-  pub slots-few : N .m ≤ 64
+  pub slots-few : N .shape .m ≤ 64
   unfolding isSlots
-  slots-few = leb-true (N .m) 64 (and-right (leb 1 (N .m)) (leb (N .m) 64) (accepted N b e .slots))
+  slots-few = leb-true (N .shape .m) 64 (and-right (leb 1 (N .shape .m)) (leb (N .shape .m) 64) (accepted N b e .slots))
 
-  within : (c : ℕ) → c < named N .n → ImageFits (N .m) (length b) c
+  within : (c : ℕ) → c < named N .shape .n → ImageFits (N .shape) (length b) c
   unfolding settingOf
-  within c h = omega (arith, image-fits (N .n) (N .m) c h, accepted N b e .size)
+  within c h = omega (arith, image-fits (N .shape) (N .shape .n) c h, accepted N b e .size)
 
-  pub store-fits : (s : NextStore) → storeOf s ≡ nextIn (named N) b → StoreFits (N .m) (length b) s
+  pub store-fits : (s : NextStore) → storeOf s ≡ nextIn (named N) b → StoreFits (N .shape) (length b) s
   unfolding nextIn storeReplica storeSlot settingOf
   store-fits Nothing x = tt
   store-fits (Entry c k d) x =
-      let F = decode (named N .n) (named N .m) b in
+      let F = decode (named N .shape) b in
       let u = due-facts (named N) F (storeEntry c k d) (sym x) in
       let low = accepted N b e .low in (
         due-slot (named N) F (storeEntry c k d) (u .is-due),
@@ -58,26 +60,26 @@ module _ (N : Numbers) (b : Bytes) (e : refusalIn N b ≡ 0) where
         within d (due-donor (named N) F c k d low (u .is-due)),
       )
   store-fits (Record c k f) x =
-      let F = decode (named N .n) (named N .m) b in
+      let F = decode (named N .shape) b in
       let u = due-facts (named N) F (storeRecord c k f) (sym x) in
       let low = accepted N b e .low in
       (due-slot (named N) F (storeRecord c k f) (u .is-due), within c (due-target (named N) F (storeRecord c k f) low (u .plan) (u .is-due) .below))
   store-fits (Blank c k) x =
-      let F = decode (named N .n) (named N .m) b in
+      let F = decode (named N .shape) b in
       let u = due-facts (named N) F (storeBlank c k) (sym x) in
       let low = accepted N b e .low in
       (due-slot (named N) F (storeBlank c k) (u .is-due), within c (due-target (named N) F (storeBlank c k) low (u .plan) (u .is-due) .below))
 
 -- a larger buffer holds what a smaller one does
-pub fits-more : (m a b : ℕ) (s : NextStore) → a ≤ b → StoreFits m a s → StoreFits m b s
-fits-more m a b Nothing h f = tt
-fits-more m a b (Entry c k d) h f = (f .0, omega arith, omega arith)
-fits-more m a b (Record c k e) h f = (f .0, omega arith)
-fits-more m a b (Blank c k) h f = (f .0, omega arith)
+pub fits-more : (Z : Shape) (a b : ℕ) (s : NextStore) → a ≤ b → StoreFits Z a s → StoreFits Z b s
+fits-more Z a b Nothing h f = tt
+fits-more Z a b (Entry c k d) h f = (f .0, omega arith, omega arith)
+fits-more Z a b (Record c k e) h f = (f .0, omega arith)
+fits-more Z a b (Blank c k) h f = (f .0, omega arith)
 
 -- a replica's number is not too large
-pub replica-few : (m c : ℕ) → ImageFits m 18446744073709551615 c → c + 1 < 18446744073709551616
-replica-few m c f = omega (arith, start-is m c)
+pub replica-few : (Z : Shape) (c : ℕ) → ImageFits Z 18446744073709551615 c → c + 1 < 18446744073709551616
+replica-few Z c f = omega (arith, images-fill Z c, size-some Z (suc c))
 
 -- ---- the store by its numbers
 
@@ -158,9 +160,9 @@ module _ (N : Numbers) (b : Bytes) where
     pub ready-stepped : {r : Result} → r ≡ stepResult (storeOf s) → r ≡ callResult N step b
     ready-stepped h = h ∙ ap stepResult (is .2) ∙ sym (ready-step N b (is .0) _ (is .1))
 
-    pub ready-step-bytes : {a : Bytes} → a ≡ after (storeOf s) b (λ t. afterStoreBytes (N .m) t b) → a ≡ callBytes N step b
+    pub ready-step-bytes : {a : Bytes} → a ≡ after (storeOf s) b (λ t. afterStoreBytes (N .shape) t b) → a ≡ callBytes N step b
     unfolding stepsBytes settingOf
-    ready-step-bytes h = h ∙ sym (step-bytes N b (is .0) ∙ ap (λ (x : Option Store). after x b (λ t. afterStoreBytes (N .m) t b)) (sym (is .2)))
+    ready-step-bytes h = h ∙ sym (step-bytes N b (is .0) ∙ ap (λ (x : Option Store). after x b (λ t. afterStoreBytes (N .shape) t b)) (sym (is .2)))
 
     pub ready-ran : {r : Result} (j : ℕ) → r ≡ runResult (storesBytes (named N) j b) (nextIn (named N) (stepsBytes (named N) j b)) → r ≡ callResult N (run j) b
     ready-ran j h = h ∙ sym (ready-run N b (is .0) _ (is .1) j)

@@ -18,27 +18,22 @@ use Rattle.protocol.specs.StepBytes.{nextIn}
 use Rattle.protocol.specs.Call.{Numbers, named, refusalIn}
 use Rattle.recovery.specs.NextStore.{storeOf}
 use Rattle.recovery.specs.Look.{InRange, Sees}
-use Rattle.recovery.specs.declared.Shape.{Shape}
 use Rattle.recovery.specs.OutlookIs.{OutlookIs}
 use Rattle.recovery.specs.declared.NextStore.{NextStore}
 use Rattle.recovery.specs.declared.Outlook.the-variants as outlook
 use Rattle.planner.proofs.RuleLaws.{end-le}
 use Rattle.protocol.proofs.CallLaws.{accepted}
 
--- a call's shape, its leader counted from 0
-abbrev pub shapeOf : Numbers → ℕ → Shape
-shapeOf N leader = record { n = N .n; m = N .m; leader = leader }
-
-module _ (N : Numbers) (b : Bytes) (e : refusalIn N b ≡ 0) {leader : ℕ} {s : Survey} (v : SurveyIs (named N) (viewsIn (named N) b) (N .n) leader s) where
-  pub sees : Sees (named N) b (shapeOf N leader) s
+module _ (N : Numbers) (b : Bytes) (e : refusalIn N b ≡ 0) {leader : ℕ} {s : Survey} (v : SurveyIs (named N) (viewsIn (named N) b) (N .shape .n) leader s) where
+  pub sees : Sees (named N) b (N .shape) leader s
   unfolding settingOf
-  sees = record { slots-are = refl; survey-is = v }
+  sees = record { shape-is = refl; survey-is = v }
 
-  log-is : (c : ℕ) → c < N .n → viewsIn (named N) b c .readable ≡ true → getD (s .lengths) c 0 ≤ N .m
+  log-is : (c : ℕ) → c < N .shape .n → viewsIn (named N) b c .readable ≡ true → getD (s .lengths) c 0 ≤ N .shape .m
   unfolding settingOf
   log-is c h r = omega (arith, v .surveyed .length-is c h r, v .logs-fit c)
 
-  pub in-range : InRange (shapeOf N leader) s (length b)
+  pub in-range : InRange (N .shape) leader s (length b)
   unfolding settingOf
   in-range = record {
     few = v .few;
@@ -79,6 +74,6 @@ module _ (N : Numbers) (b : Bytes) (e : refusalIn N b ≡ 0) {leader : ℕ} {s :
         rw (leads, le-ltb (firstWaiting (named N) (viewsIn (named N) b)) (end (named N) (viewsIn (named N) b)) (omega arith))
 
     pub readies : final ≤ waiting → (t : NextStore)
-        → storeOf t ≡ (leaderStore (named N) (viewsIn (named N) b) or followersStore (named N) (decode (named N .n) (named N .m) b)) → OutlookIs N b (outlook.Ready t)
+        → storeOf t ≡ (leaderStore (named N) (viewsIn (named N) b) or followersStore (named N) (decode (named N .shape) b)) → OutlookIs N b (outlook.Ready t)
     unfolding nextIn next ifReady viewsIn
     readies h t x = let r = is-ready h in (e, r, x ∙ rw r)

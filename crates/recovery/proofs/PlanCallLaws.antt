@@ -24,7 +24,7 @@ either true a r = answered-result a
 either false a r = refl
 
 module _ (N : Numbers) (b : Bytes) (bytes rows : ℕ) where
-  pub plan-result : planResult (planNumbered (planRefusal (N .n) (N .m) (N .leader) (N .present) b bytes rows) (answer (named N) (viewsIn (named N) b))) ≡ callResult N (plan bytes rows) b
+  pub plan-result : planResult (planNumbered (planRefusal (N .shape) (N .leader) (N .present) b bytes rows) (answer (named N) (viewsIn (named N) b))) ≡ callResult N (plan bytes rows) b
   unfolding planNumbered callResult acceptedResult refusalOf
   plan-result = either (eqb (refusalOf N (plan bytes rows) b) 0) (answer (named N) (viewsIn (named N) b)) (refusalOf N (plan bytes rows) b)
 

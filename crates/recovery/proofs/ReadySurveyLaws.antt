@@ -34,7 +34,7 @@ module _ (N : Numbers) (b : Bytes) {leader : ℕ} {s : Survey} (v : ReadySurvey 
   S = named N
 
   abbrev F : Cluster
-  F = decode (S .n) (S .m) b
+  F = decode (S .shape) b
 
   pub shows-next : {o : Option Store} → o ≡ (leaderStore S (viewsIn S b) or followersStore S F) → o ≡ nextIn S b
   unfolding nextIn next ifReady viewsIn
@@ -45,7 +45,7 @@ module _ (N : Numbers) (b : Bytes) {leader : ℕ} {s : Survey} (v : ReadySurvey 
   unfolding _or_ viewsIn
   shows-follower w x = shows-next (rw (w .leader-rests) x)
 
-  low : S .leader < S .n
+  low : S .leader < S .shape .n
   unfolding settingOf
   low = accepted N b (v .accepts) .low
 
@@ -54,10 +54,10 @@ module _ (N : Numbers) (b : Bytes) {leader : ℕ} {s : Survey} (v : ReadySurvey 
     unfolding nextIn
     is-next = sym x
 
-    replica-below : storeReplica u < S .n
+    replica-below : storeReplica u < S .shape .n
     replica-below = let d = due-facts S F u is-next in due-target S F u low (d .plan) (d .is-due) .below
 
-    slot-below : storeSlot u < S .m
+    slot-below : storeSlot u < S .shape .m
     slot-below = due-slot S F u (due-facts S F u is-next .is-due)
 
     pub store-below : (storeReplica u < 7) × (storeSlot u < 64)
@@ -68,8 +68,8 @@ module _ (N : Numbers) (b : Bytes) {leader : ℕ} {s : Survey} (v : ReadySurvey 
     unfolding viewsIn
     reads = let d = due-facts S F u is-next in due-target S F u low (d .plan) (d .is-due) .ok
 
-    module _ (a : Bytes) (y : a ≡ afterStoreBytes (N .m) u b) where
-      means : decode (S .n) (S .m) a ≡ afterStore u F
+    module _ (a : Bytes) (y : a ≡ afterStoreBytes (N .shape) u b) where
+      means : decode (S .shape) a ≡ afterStore u F
       unfolding settingOf
       means = rw y (next-means S low b (accepted N b (v .accepts) .size) u is-next .is)
 
@@ -81,7 +81,7 @@ module _ (N : Numbers) (b : Bytes) {leader : ℕ} {s : Survey} (v : ReadySurvey 
       unfolding viewsIn
       answer-next = ap (λ (G : Cluster). answer S (viewsOf S G)) means ∙ step-law S F u low is-next .answers
 
-      rests-next : (storeReplica u ≡ leader → ⊥) → RestBelow S (decode (S .n) (S .m) a) (storeReplica u)
+      rests-next : (storeReplica u ≡ leader → ⊥) → RestBelow S (decode (S .shape) a) (storeReplica u)
       rests-next q = rw means (rests-after S F u is-next (λ z. q (z ∙ v .sees .leader-is)))
 
       accepts-next : refusalIn N a ≡ 0
@@ -95,7 +95,7 @@ module _ (N : Numbers) (b : Bytes) {leader : ℕ} {s : Survey} (v : ReadySurvey 
       unfolding settingOf
       ready-noted f = record {
         accepts = accepts-next;
-        sees = rw views-next (f S (viewsIn S b) (N .n) leader replica-below slot-below reads (v .sees));
+        sees = rw views-next (f S (viewsIn S b) (N .shape .n) leader replica-below slot-below reads (v .sees));
         ready = ready-intro S (viewsIn S a) (ready-facts S (viewsIn S a) (end S (viewsIn S b)) (answer-next ∙ v .ready));
       }
 
@@ -104,20 +104,20 @@ module _ (N : Numbers) (b : Bytes) {leader : ℕ} {s : Survey} (v : ReadySurvey 
 
   -- replica c is the one that the store is made on
   module _ {c : ℕ} where
-    pub replica-within : (o : Option Store) → o ≡ nextIn S b → isSome o ≡ true → ((u : Store) → o ≡ some u → c ≡ storeReplica u) → c < S .n
+    pub replica-within : (o : Option Store) → o ≡ nextIn S b → isSome o ≡ true → ((u : Store) → o ≡ some u → c ≡ storeReplica u) → c < S .shape .n
     unfolding isSome
     replica-within none x h f = absurd (true≢false (sym h))
     replica-within (some u) x h f = rw (f u refl) (replica-below u x)
 
     pub rest-after : {a : Bytes} (o : Option Store) → o ≡ nextIn S b → isSome o ≡ true → ((u : Store) → o ≡ some u → c ≡ storeReplica u)
-        → a ≡ after o b (λ u. afterStoreBytes (N .m) u b) → (c ≡ leader → ⊥) → RestBelow S (decode (S .n) (S .m) a) c
+        → a ≡ after o b (λ u. afterStoreBytes (N .shape) u b) → (c ≡ leader → ⊥) → RestBelow S (decode (S .shape) a) c
     unfolding isSome after
     rest-after none x h f y q = absurd (true≢false (sym h))
     rest-after (some u) x h f y q = rw (f u refl) (rests-next u x _ y (λ z. q (f u refl ∙ z)))
 
   -- the survey that is noted is that of the cluster after the store
   pub ready-after : {a : Bytes} {r : Survey} (o : Option Store) → o ≡ nextIn S b → isSome o ≡ true
-      → a ≡ after o b (λ u. afterStoreBytes (N .m) u b) → ((u : Store) → o ≡ some u → Noted u s r) → ReadySurvey N a leader r
+      → a ≡ after o b (λ u. afterStoreBytes (N .shape) u b) → ((u : Store) → o ≡ some u → Noted u s r) → ReadySurvey N a leader r
   unfolding isSome after
   ready-after none x h y f = absurd (true≢false (sym h))
   ready-after (some u) x h y f = ready-noted u x _ y (f u refl)

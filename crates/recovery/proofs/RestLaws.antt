@@ -109,13 +109,13 @@ due-replica S F c s e = go (answers S (viewsOf S F) c) e
 -- those before the first that has a store have none
 first-below : (S : Setting) (F : Cluster) (s : Store) → followersStore S F ≡ some s → (j : ℕ) → j < storeReplica s → isSome (due S F j) ≡ false
 unfolding followersStore firstOf
-first-below S F s e j h = go (ltb first (S .n)) e
+first-below S F s e j h = go (ltb first (S .shape .n)) e
   where
     first : ℕ
-    first = lowest (λ c. isSome (due S F c)) (S .n)
+    first = lowest (λ c. isSome (due S F c)) (S .shape .n)
 
     go : (v : Bool) → cond v (due S F first) none ≡ some s → isSome (due S F j) ≡ false
-    go true p = below-lowest (λ c. isSome (due S F c)) (S .n) j (omega (arith, due-replica S F first s p))
+    go true p = below-lowest (λ c. isSome (due S F c)) (S .shape .n) j (omega (arith, due-replica S F first s p))
     go false p = absurd (let z : _≡_ {A = ℕ} 0 1 = cc in omega arith)
 
 -- ---- after the store

@@ -46,14 +46,14 @@ module _ (S : Setting) (c : ℕ) (i : Image) (ok : view S c i .readable ≡ true
   blank-seen l h =
       let t = blank-effect S c i ok l h in
       with-slot (view S c i) (view S c (setRecord i l blank)) l l Unused 0 (t .readable ∙ sym ok) (t .is)
-      (record-condition (S .m) i l blank) (record-epoch (S .m) i l blank) (record-condition-other (S .m) i l blank) (record-epoch-other (S .m) i l blank)
+      (record-condition (S .shape .m) i l blank) (record-epoch (S .shape .m) i l blank) (record-condition-other (S .shape .m) i l blank) (record-epoch-other (S .shape .m) i l blank)
 
   mend-seen : (k d : ℕ) (x : Entry) → k < view S c i .length → Mended k (view S c i) (view S c (setEntry i k x))
       → view S c (setEntry i k x) ≡ seenAfter (storeEntry c k d) (view S c i)
   unfolding seenAfter
   mend-seen k d x h t = rw (lt-ltb k (view S c i .length) h) (mended-seen (view S c i) (view S c (setEntry i k x)) k ok t)
 
-  fill-seen : (k d : ℕ) (x : Entry) → view S c i .length ≤ k → k < S .m → view S c (setEntry i k x) ≡ seenAfter (storeEntry c k d) (view S c i)
+  fill-seen : (k d : ℕ) (x : Entry) → view S c i .length ≤ k → k < S .shape .m → view S c (setEntry i k x) ≡ seenAfter (storeEntry c k d) (view S c i)
   unfolding seenAfter
   fill-seen k d x h room = rw (le-ltb k (view S c i .length) h) (fill-effect S c i ok k x h room)
 
@@ -69,7 +69,7 @@ module _ (S : Setting) (c : ℕ) (i : Image) (ok : view S c i .readable ≡ true
       let l = view S c i .length in
       rw (le-ltb l l (omega arith))
       (with-slot (view S c i) (view S c (setRecord i l (good e))) l (suc l) Whole e (t .readable ∙ sym ok) (t .is) (t .whole) (t .epoch)
-      (record-condition-other (S .m) i l (good e)) (record-epoch-other (S .m) i l (good e)))
+      (record-condition-other (S .shape .m) i l (good e)) (record-epoch-other (S .shape .m) i l (good e)))
 
 -- ---- the store that is due
 

@@ -30,13 +30,13 @@ pub record Underway (N : Numbers) (b₀ : Bytes) (budget made : ℕ) (b : Bytes)
 -- ---- steps of bytes by the store that is outstanding
 
 module _ (S : Setting) (b : Bytes) where
-  steps-made : (o : Option Store) (a : Bytes) (j : ℕ) → o ≡ nextIn S b → isSome o ≡ true → a ≡ after o b (λ s. afterStoreBytes (S .m) s b)
+  steps-made : (o : Option Store) (a : Bytes) (j : ℕ) → o ≡ nextIn S b → isSome o ≡ true → a ≡ after o b (λ s. afterStoreBytes (S .shape) s b)
       → stepsBytes S (suc j) b ≡ stepsBytes S j a
   unfolding stepsBytes after isSome
   steps-made none a j e t h = absurd (let z : _≡_ {A = ℕ} 0 1 = cc in omega arith)
   steps-made (some s) a j e t h = rw (← e, h)
 
-  stores-made : (o : Option Store) (a : Bytes) (j : ℕ) → o ≡ nextIn S b → isSome o ≡ true → a ≡ after o b (λ s. afterStoreBytes (S .m) s b)
+  stores-made : (o : Option Store) (a : Bytes) (j : ℕ) → o ≡ nextIn S b → isSome o ≡ true → a ≡ after o b (λ s. afterStoreBytes (S .shape) s b)
       → storesBytes S (suc j) b ≡ suc (storesBytes S j a)
   unfolding storesBytes after isSome
   stores-made none a j e t h = absurd (let z : _≡_ {A = ℕ} 0 1 = cc in omega arith)
@@ -93,7 +93,7 @@ underway-start N b budget t e x = record {
 }
 
 module _ (N : Numbers) {b₀ b : Bytes} {budget made : ℕ} {t : NextStore} (u : Underway N b₀ budget made b t) where
-  pub underway-more : {a : Bytes} {v : NextStore} → made < budget → isSome (storeOf t) ≡ true → a ≡ after (storeOf t) b (λ s. afterStoreBytes (N .m) s b)
+  pub underway-more : {a : Bytes} {v : NextStore} → made < budget → isSome (storeOf t) ≡ true → a ≡ after (storeOf t) b (λ s. afterStoreBytes (N .shape) s b)
       → (refusalIn N a ≡ 0 → storeOf v ≡ nextIn (named N) a) → Underway N b₀ budget (made + 1) a v
   unfolding settingOf
   underway-more {a} {v} h some-left x next =

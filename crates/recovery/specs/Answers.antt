@@ -2,6 +2,7 @@
 use Prim.Native.Nat.{ℕ}
 use mathlib.Core.Bool.{cond}
 use lib.Dec.{eqb}
+use Rattle.record.specs.declared.Shape.{Shape}
 use Rattle.image.specs.Answers.{Numbered}
 use Rattle.image.specs.Answers as numbered
 use Rattle.protocol.specs.Call.{Numbers}
@@ -13,8 +14,8 @@ use Rattle.recovery.specs.declared.RunAnswer.the-variants as run
 use Rattle.recovery.specs.declared.Outlook.the-variants as outlook
 
 -- what a call names; the leader by its number
-abbrev pub numbers : ℕ → ℕ → ℕ → ℕ → Numbers
-numbers n m leading present = record { n = n; m = m; leader = leading; present = present }
+abbrev pub numbers : Shape → ℕ → ℕ → Numbers
+numbers Z leading present = record { shape = Z; leader = leading; present = present }
 
 -- the result of a plan call by the planner's numbers: the refusal, or status 0 and the final length, else the lowest waiting slot
 abbrev pub planResult : Numbered (ℕ × ℕ) → Result

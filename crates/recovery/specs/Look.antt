@@ -6,6 +6,7 @@ use mathlib.Core.List.{List}
 use mathlib.Core.Option.{Option, none}
 use lib.ListN.{getD}
 use Rattle.slices.specs.Parts.{Bytes}
+use Rattle.record.specs.declared.Shape.{Shape}
 use Rattle.image.specs.View.{View}
 use Rattle.image.specs.View.{conditionNumber}
 use Rattle.image.specs.Cluster.{Cluster, imageAt, decode}
@@ -15,7 +16,6 @@ use Rattle.planner.specs.Survey.{SurveyIs}
 use Rattle.planner.specs.declared.Survey.{Survey}
 use Rattle.protocol.specs.Store.{Store, storeEntry, storeRecord}
 use Rattle.protocol.specs.Recovery.{ifBelow, leaderStore, isSome, due}
-use Rattle.recovery.specs.declared.Shape.{Shape}
 
 -- a survey's numbers of replica c are those of its view
 pub record Looked (m : ℕ) (v : View) (c length : ℕ) (conditions epochs : List ℕ) : Type 0 where
@@ -24,29 +24,29 @@ pub record Looked (m : ℕ) (v : View) (c length : ℕ) (conditions epochs : Lis
   pub condition-is : (k : ℕ) → k < m → getD conditions (c * 64 + k) 0 ≡ conditionNumber (v .condition k)
   pub epoch-is : (k : ℕ) → k < m → getD epochs (c * 64 + k) 0 ≡ v .epoch k
 
--- the numbers of a survey lie in range: so many replicas of m slots in a buffer of that size, and no log longer than m
-pub record InRange (shape : Shape) (s : Survey) (size : ℕ) : Type 0 where
-  pub few : shape .n ≤ 7
-  pub slots-fit : shape .m ≤ 64
-  pub leader-below : shape .leader < shape .n
-  pub size-is : size ≡ imageAt (shape .m) (shape .n)
-  pub leader-fits : getD (s .lengths) (shape .leader) 0 ≤ shape .m
-  pub log-fits : (c : ℕ) → c < shape .n → has (s .readable) c ≡ true → getD (s .lengths) c 0 ≤ shape .m
+-- the numbers of a survey lie in range, the leader's from 0: so many replicas of m slots in a buffer of that size, and no log longer than m
+pub record InRange (Z : Shape) (leader : ℕ) (s : Survey) (size : ℕ) : Type 0 where
+  pub few : Z .n ≤ 7
+  pub slots-fit : Z .m ≤ 64
+  pub leader-below : leader < Z .n
+  pub size-is : size ≡ imageAt Z (Z .n)
+  pub leader-fits : getD (s .lengths) leader 0 ≤ Z .m
+  pub log-fits : (c : ℕ) → c < Z .n → has (s .readable) c ≡ true → getD (s .lengths) c 0 ≤ Z .m
 
 -- replica c answers, and its numbers too lie in range
-pub record Answering (shape : Shape) (s : Survey) (size c : ℕ) : Type 0 where
-  pub in-range : InRange shape s size
-  pub replica-below : c < shape .n
+pub record Answering (Z : Shape) (leader : ℕ) (s : Survey) (size c : ℕ) : Type 0 where
+  pub in-range : InRange Z leader s size
+  pub replica-below : c < Z .n
   pub replica-reads : has (s .readable) c ≡ true
 
--- a survey is that of the cluster in a buffer, for a setting of this shape
-pub record Sees (S : Setting) (b : Bytes) (shape : Shape) (s : Survey) : Type 0 where
-  pub slots-are : S .m ≡ shape .m
-  pub survey-is : SurveyIs S (viewsIn S b) (shape .n) (shape .leader) s
+-- a survey is that of the cluster in a buffer, for a setting of this shape and leader
+pub record Sees (S : Setting) (b : Bytes) (Z : Shape) (leader : ℕ) (s : Survey) : Type 0 where
+  pub shape-is : S .shape ≡ Z
+  pub survey-is : SurveyIs S (viewsIn S b) (Z .n) leader s
 
 -- the cluster in a buffer
 abbrev pub clusterIn : Setting → Bytes → Cluster
-clusterIn S b = decode (S .n) (S .m) b
+clusterIn S b = decode (S .shape) b
 
 -- the last part of `followerStore`: the first missing slot of c, entry before record
 abbrev pub missingStore : Setting → (ℕ → View) → Bool → ℕ → Option Store

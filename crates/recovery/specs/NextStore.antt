@@ -1,6 +1,7 @@
 -- For proofs only. The store that the code's enum names, and that it lies in the buffer.
 use Prim.Native.Nat.{ℕ, _<_}
 use mathlib.Core.Option.{Option, none, some}
+use Rattle.record.specs.declared.Shape.{Shape}
 use Rattle.image.specs.Fits.{ImageFits}
 use Rattle.protocol.specs.Store.{Store, storeEntry, storeRecord, storeBlank}
 use Rattle.recovery.specs.declared.NextStore.{NextStore}
@@ -13,8 +14,8 @@ storeOf (Record c k e) = some (storeRecord c k e)
 storeOf (Blank c k) = some (storeBlank c k)
 
 -- the images and the slot that a store names lie in the buffer
-abbrev pub StoreFits : ℕ → ℕ → NextStore → Type 0
-StoreFits m size Nothing = Unit {0}
-StoreFits m size (Entry c k d) = (k < m) × ImageFits m size c × ImageFits m size d
-StoreFits m size (Record c k e) = (k < m) × ImageFits m size c
-StoreFits m size (Blank c k) = (k < m) × ImageFits m size c
+abbrev pub StoreFits : Shape → ℕ → NextStore → Type 0
+StoreFits Z size Nothing = Unit {0}
+StoreFits Z size (Entry c k d) = (k < Z .m) × ImageFits Z size c × ImageFits Z size d
+StoreFits Z size (Record c k e) = (k < Z .m) × ImageFits Z size c
+StoreFits Z size (Blank c k) = (k < Z .m) × ImageFits Z size c

@@ -6,6 +6,7 @@ use lib.Dec.{ltb}
 use lib.ListN.{length, set}
 use Rattle.search.specs.Put.{put}
 use Rattle.slices.specs.Parts.{Bytes}
+use Rattle.record.specs.declared.Shape.{Shape}
 use Rattle.image.specs.View.{Condition, Unused, Whole, View}
 use Rattle.planner.specs.Setting.{Setting}
 use Rattle.planner.specs.Rules.{Ready, answer, end}
@@ -15,7 +16,6 @@ use Rattle.planner.specs.declared.Survey.{Survey}
 use Rattle.protocol.specs.Store.{Store, storeEntry, storeRecord, storeBlank, storeReplica, storeSlot}
 use Rattle.protocol.specs.Call.{Numbers, named, refusalIn}
 use Rattle.recovery.specs.Answers.{numbers}
-use Rattle.recovery.specs.declared.Shape.{Shape}
 
 -- a view with a log so long, and slot k in this condition and epoch
 unfoldable pub withSlot : View → ℕ → ℕ → Condition → ℕ → View
@@ -44,21 +44,17 @@ pub record SlotSet (s r : Survey) (c k l x e : ℕ) : Type 0 where
 -- a survey of the replicas, for whatever views it was one, is r once the store is made
 abbrev pub Noted : Store → Survey → Survey → Type 0
 Noted t s r =
-    (S : Setting) (W : ℕ → View) (n leader : ℕ) → storeReplica t < n → storeSlot t < S .m → W (storeReplica t) .readable ≡ true
+    (S : Setting) (W : ℕ → View) (n leader : ℕ) → storeReplica t < n → storeSlot t < S .shape .m → W (storeReplica t) .readable ≡ true
     → SurveyIs S W n leader s → SurveyIs S (viewsAfter t W) n leader r
 
 -- a survey of a cluster that is not refused, and whose plan is ready; the leader counts from 0
 pub record ReadySurvey (N : Numbers) (b : Bytes) (leader : ℕ) (s : Survey) : Type 0 where
   pub accepts : refusalIn N b ≡ 0
-  pub sees : SurveyIs (named N) (viewsIn (named N) b) (N .n) leader s
+  pub sees : SurveyIs (named N) (viewsIn (named N) b) (N .shape .n) leader s
   pub ready : answer (named N) (viewsIn (named N) b) ≡ Ready (end (named N) (viewsIn (named N) b))
 
--- a call of this shape, by the leader's number and the present set
-abbrev pub numbersOf : Shape → ℕ → ℕ → Numbers
-numbersOf shape leading present = numbers (shape .n) (shape .m) leading present
-
--- a ready survey of such a call, whatever its leader's number and its present set were
-pub record SomeReadySurvey (shape : Shape) (b : Bytes) (s : Survey) : Type 0 where
+-- a ready survey of a call of this shape, its leader counted from 0, whatever the leader's number and the present set were
+pub record SomeReadySurvey (Z : Shape) (leader : ℕ) (b : Bytes) (s : Survey) : Type 0 where
   pub leading : ℕ
   pub present : ℕ
-  pub is : ReadySurvey (numbersOf shape leading present) b (shape .leader) s
+  pub is : ReadySurvey (numbers Z leading present) b leader s

@@ -2,6 +2,7 @@
 use Prim.Native.Nat.{ℕ}
 use mathlib.Core.Path.{_≡_}
 use Rattle.slices.specs.Parts.{Bytes}
+use Rattle.record.specs.declared.Shape.{Shape}
 use Rattle.planner.specs.Answers.{planCallNumbers}
 use Rattle.protocol.specs.Call.{plan}
 use Rattle.protocol.specs.CallResult.{callResult, callBytes}
@@ -9,7 +10,7 @@ use Rattle.recovery.specs.Answers.{numbers, planResult}
 
 pub record PlanCall : Type 0 where
   -- the answer, lent buffers of any sizes
-  pub result-is : (n m leading present : ℕ) (b : Bytes) (bytes rows : ℕ) →
-      planResult (planCallNumbers n m leading present b bytes rows) ≡ callResult (numbers n m leading present) (plan bytes rows) b
+  pub result-is : (Z : Shape) (leading present : ℕ) (b : Bytes) (bytes rows : ℕ) →
+      planResult (planCallNumbers Z leading present b bytes rows) ≡ callResult (numbers Z leading present) (plan bytes rows) b
   -- the planner changes no byte of the cluster
-  pub bytes-kept : (n m leading present : ℕ) (b : Bytes) (bytes rows : ℕ) → callBytes (numbers n m leading present) (plan bytes rows) b ≡ b
+  pub bytes-kept : (Z : Shape) (leading present : ℕ) (b : Bytes) (bytes rows : ℕ) → callBytes (numbers Z leading present) (plan bytes rows) b ≡ b

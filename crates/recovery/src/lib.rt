@@ -13,13 +13,6 @@ pub enum NextStore {
     Blank { c: usize, k: usize },
 }
 
-// A cluster's n and m, and its leader, counted from 0.
-pub struct Shape {
-    pub n: usize,
-    pub m: usize,
-    pub leader: usize,
-}
-
 // What stands of a cluster's recovery: refused by this number; waiting, with the lowest waiting slot's number; or ready, with the first
 // store still outstanding.
 pub enum Outlook {

@@ -12,6 +12,7 @@ use Rattle.search.specs.Search.{count}
 use Rattle.search.proofs.CountLaws.{count-none}
 use Rattle.search.proofs.SearchLaws.{lowest-is}
 use Rattle.slices.specs.Parts.{Bytes}
+use Rattle.record.specs.declared.Shape.{Shape}
 use Rattle.image.specs.View.{View, viewOf, isSize}
 use Rattle.image.proofs.CallLaws.{size-low}
 use Rattle.planner.specs.Setting.{Setting, has, settingOf, viewsOf}
@@ -47,9 +48,9 @@ one-member j c = go (ℕ-discrete c j) (decLt c j)
 
 -- ---- who answers
 
-module _ (n m leader : ℕ) (b : Bytes) (sized : isSize n ≡ true) where
+module _ (Z : Shape) (leader : ℕ) (b : Bytes) (sized : isSize (Z .n) ≡ true) where
   abbrev S : Setting
-  S = alone n m leader
+  S = alone Z leader
 
   abbrev W : ℕ → View
   W = viewsIn S b
@@ -70,12 +71,12 @@ module _ (n m leader : ℕ) (b : Bytes) (sized : isSize n ≡ true) where
   unfolding dontHave
   no-dont k c = rw (silent c) refl
 
-  kept : (k : ℕ) → mayTruncate n (count (dontHave S W k) n) ≡ false
-  kept k = waits-if n _ (omega (arith, count-none (dontHave S W k) n (λ c h. no-dont k c), majority-least n, size-low n sized))
+  kept : (k : ℕ) → mayTruncate (Z .n) (count (dontHave S W k) (Z .n)) ≡ false
+  kept k = waits-if (Z .n) _ (omega (arith, count-none (dontHave S W k) (Z .n) (λ c h. no-dont k c), majority-least (Z .n), size-low (Z .n) sized))
 
   faulty-waits : (k : ℕ) → isFaulty (W (pred leader) .condition k) ≡ true → rule S W k ≡ Wait
   unfolding settingOf
-  faulty-waits k f = no-donor S W k f (donor-is S W k n (omega arith) (λ c h. no-have k c) (λ h. absurd (omega (arith, h)))) ∙ rw (kept k) refl
+  faulty-waits k f = no-donor S W k f (donor-is S W k (Z .n) (omega arith) (λ c h. no-have k c) (λ h. absurd (omega (arith, h)))) ∙ rw (kept k) refl
 
   stands : (k : ℕ) → isTruncate (rule S W k) ≡ false
   unfolding isTruncate settingOf

@@ -11,6 +11,8 @@ use borrow.Author.Tests.{lt-ltb, le-ltb, ne-eqb}
 use Rattle.search.specs.Search.{joined}
 use Rattle.search.proofs.ListedLaws.{getD-listed, joined-cong}
 use Rattle.slices.specs.Parts.{Bytes}
+use Rattle.record.specs.declared.Shape.{Shape}
+use Rattle.record.specs.Layout.{shapeOf}
 use Rattle.image.specs.View.{View}
 use Rattle.planner.specs.Setting.{Setting, settingOf}
 use Rattle.planner.specs.Rules.{answer}
@@ -32,17 +34,17 @@ module _
   reads : W (S .leader) .readable ≡ true
   reads = rw (s .leader-is) (s .leader-reads)
 
-  plan-byte : (k : ℕ) → k < S .m → getD bytes k 0 ≡ planByte S W k
+  plan-byte : (k : ℕ) → k < S .shape .m → getD bytes k 0 ≡ planByte S W k
   unfolding planBytes
   plan-byte k h =
-      sym (getD-take (S .m) bytes k 0 h) ∙ ap (λ (l : List ℕ). getD l k 0) (p .bytes-are) ∙ getD-listed (S .m) (planByte S W) k 0 h
+      sym (getD-take (S .shape .m) bytes k 0 h) ∙ ap (λ (l : List ℕ). getD l k 0) (p .bytes-are) ∙ getD-listed (S .shape .m) (planByte S W) k 0 h
 
   lines-are : joined (getD lengths at 0) (lineFrom epochs (at * 64) bytes) ≡ slotLines S W
   unfolding slotLines lineFrom
   lines-are =
       let from : at ≡ S .leader = sym (s .leader-is) in
       let len : getD lengths at 0 ≡ W (S .leader) .length = s .surveyed .length-is at (s .leader-below) (s .leader-reads) ∙ ap (λ (c : ℕ). W c .length) from in
-      let fits : W (S .leader) .length ≤ S .m = s .logs-fit (S .leader) in
+      let fits : W (S .leader) .length ≤ S .shape .m = s .logs-fit (S .leader) in
       rw len
       (joined-cong (W (S .leader) .length) _ _
       (λ k h. ap₂ (slotLine k)
@@ -63,13 +65,13 @@ module _
 
 -- ---- which line is printed for an input
 
-module _ (n m leader present : ℕ) (b : Bytes) where
-  pub refused-report : {r : ℕ} → r ≡ clusterRefusal n m leader present b → (r ≡ 0 → ⊥) → refusedLine r ≡ clusterReport n m leader present b
+module _ (Z : Shape) (leader present : ℕ) (b : Bytes) where
+  pub refused-report : {r : ℕ} → r ≡ clusterRefusal Z leader present b → (r ≡ 0 → ⊥) → refusedLine r ≡ clusterReport Z leader present b
   unfolding clusterReport
   refused-report e h = rw (← e, ne-eqb _ _ h) refl
 
-  pub planned-report : clusterRefusal n m leader present b ≡ 0
-      → planLines n leader (settingOf n m leader present) (viewsIn (settingOf n m leader present) b) ≡ clusterReport n m leader present b
+  pub planned-report : clusterRefusal Z leader present b ≡ 0
+      → planLines (Z .n) leader (settingOf Z leader present) (viewsIn (settingOf Z leader present) b) ≡ clusterReport Z leader present b
   unfolding clusterReport
   planned-report e = rw e refl
 
@@ -84,8 +86,8 @@ module _ (b : Bytes) where
     malformed-report e k = rw (le-ltb _ _ h, ← e, k) refl
 
     pub well-report : {c : Command} {n m leader w : ℕ} {set : Present} → c ≡ commandLine b → c ≡ Well n m leader set
-        → w ≡ presentOf n leader set → clusterReport n m leader w (take (length b - 14) (drop 14 b)) ≡ reportOf b
+        → w ≡ presentOf n leader set → clusterReport (shapeOf n m) leader w (take (length b - 14) (drop 14 b)) ≡ reportOf b
     unfolding reportOf commandReport
     well-report {c} {n} {m} {leader} {w} {set} e k f =
         let all : take (length b - 14) (drop 14 b) ≡ drop 14 b = take-all (length b - 14) (drop 14 b) (rw length-drop (omega arith)) in
-        rw (all, le-ltb _ _ h, ← e, k) (ap (λ (x : ℕ). clusterReport n m leader x (drop 14 b)) f)
+        rw (all, le-ltb _ _ h, ← e, k) (ap (λ (x : ℕ). clusterReport (shapeOf n m) leader x (drop 14 b)) f)

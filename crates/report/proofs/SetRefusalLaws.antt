@@ -7,6 +7,7 @@ use lib.Dec.{ltb}
 use lib.Pow.{pow-pos}
 use borrow.Author.Tests.{lt-ltb, le-ltb}
 use Rattle.slices.specs.Parts.{Bytes}
+use Rattle.record.specs.declared.Shape.{Shape}
 use Rattle.image.specs.Refusal.{refuse, _else_}
 use Rattle.image.specs.View.{isReplica}
 use Rattle.image.proofs.RefusalLaws.{else-zero-r}
@@ -21,26 +22,26 @@ unfolding _else_
 else-assoc zero s t = refl
 else-assoc (suc r) s t = refl
 
-module _ (n m leader present : ℕ) (b : Bytes) where
+module _ (Z : Shape) (leader present : ℕ) (b : Bytes) where
   -- what is tried behind 1, 2 and 3
   abbrev later : ℕ
-  later = refuse 11 (not (ltb present (2 ^ n))) else refuse 12 (not (isReplica n leader && viewsIn (settingOf n m leader present) b (pred leader) .readable))
+  later = refuse 11 (not (ltb present (2 ^ Z .n))) else refuse 12 (not (isReplica (Z .n) leader && viewsIn (settingOf Z leader present) b (pred leader) .readable))
 
-  in-order : clusterRefusal n m leader present b ≡ afterShape n m b later
+  in-order : clusterRefusal Z leader present b ≡ afterShape Z b later
   unfolding clusterRefusal shapeRefusal afterShape
   in-order = simp else-assoc
 
-  shows : (r : ℕ) → later ≡ suc r → clusterReport n m leader present b ≡ refusedLine (afterShape n m b (suc r))
+  shows : (r : ℕ) → later ≡ suc r → clusterReport Z leader present b ≡ refusedLine (afterShape Z b (suc r))
   unfolding afterShape
   shows r e =
-      sym (refused-report n m leader present b (sym (in-order ∙ ap (afterShape n m b) e))
+      sym (refused-report Z leader present b (sym (in-order ∙ ap (afterShape Z b) e))
       (λ z. omega (arith, else-zero-r _ _ (else-zero-r _ _ (else-zero-r _ _ z)))))
 
-  pub stray-refused : {r : ℕ} → 2 ^ n ≤ present → r ≡ 11 → clusterReport n m leader present b ≡ refusedLine (afterShape n m b r)
+  pub stray-refused : {r : ℕ} → 2 ^ Z .n ≤ present → r ≡ 11 → clusterReport Z leader present b ≡ refusedLine (afterShape Z b r)
   unfolding refuse _else_
-  stray-refused h q = rw q (shows 10 (rw (le-ltb present (2 ^ n) h) refl))
+  stray-refused h q = rw q (shows 10 (rw (le-ltb present (2 ^ Z .n) h) refl))
 
-pub no-leader-refused : (n m leader : ℕ) (b : Bytes) {r : ℕ} → isReplica n leader ≡ false → r ≡ 12
-    → clusterReport n m leader 0 b ≡ refusedLine (afterShape n m b r)
+pub no-leader-refused : (Z : Shape) (leader : ℕ) (b : Bytes) {r : ℕ} → isReplica (Z .n) leader ≡ false → r ≡ 12
+    → clusterReport Z leader 0 b ≡ refusedLine (afterShape Z b r)
 unfolding refuse _else_
-no-leader-refused n m leader b e q = rw q (shows n m leader 0 b 11 (rw (lt-ltb 0 (2 ^ n) (pow-pos n), e) refl))
+no-leader-refused Z leader b e q = rw q (shows Z leader 0 b 11 (rw (lt-ltb 0 (2 ^ Z .n) (pow-pos (Z .n)), e) refl))

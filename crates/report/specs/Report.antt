@@ -8,6 +8,8 @@ use lib.ListN.{length, take, drop}
 use Rattle.search.specs.Search.{joined}
 use Rattle.slices.specs.Parts.{Bytes}
 use Rattle.column.specs.Column.{column}
+use Rattle.record.specs.declared.Shape.{Shape}
+use Rattle.record.specs.Layout.{shapeOf}
 use Rattle.image.specs.View.{View}
 use Rattle.planner.specs.Setting.{Setting, settingOf}
 use Rattle.planner.specs.Rules.{Answer, Refused, Waiting, Ready, answer}
@@ -51,15 +53,15 @@ unfoldable pub planLines : ℕ → ℕ → Setting → (ℕ → View) → Bytes
 planLines n leader S W = headLine n leader (statusOf (answer S W)) (numberOf (answer S W)) ++ slotLines S W
 
 -- of a cluster: the plan, or the refusal of planning
-unfoldable pub clusterReport : ℕ → ℕ → ℕ → ℕ → Bytes → Bytes
-clusterReport n m leader present b =
-    cond (eqb (clusterRefusal n m leader present b) 0)
-    (planLines n leader (settingOf n m leader present) (viewsIn (settingOf n m leader present) b))
-    (refusedLine (clusterRefusal n m leader present b))
+unfoldable pub clusterReport : Shape → ℕ → ℕ → Bytes → Bytes
+clusterReport Z leader present b =
+    cond (eqb (clusterRefusal Z leader present b) 0)
+    (planLines (Z .n) leader (settingOf Z leader present) (viewsIn (settingOf Z leader present) b))
+    (refusedLine (clusterRefusal Z leader present b))
 
 -- a command line that is not well formed is refused by 14
 unfoldable pub commandReport : Command → Bytes → Bytes
-commandReport (Well n m leader set) b = clusterReport n m leader (presentOf n leader set) b
+commandReport (Well n m leader set) b = clusterReport (shapeOf n m) leader (presentOf n leader set) b
 commandReport Malformed b = refusedLine 14
 
 -- input over 65,536 bytes is refused by 3, before all else

@@ -1,12 +1,13 @@
 -- The two ends of every call about a cluster: the answer, with what is handed out, or the refusal, and nothing is.
 use Prim.Native.Nat.{ℕ}
-use mathlib.Core.Path.{_≡_, refl, sym, ap, _∙_}
+use mathlib.Core.Path.{_≡_, refl, sym, ap, subst, _∙_}
 use mathlib.Core.Bool.{Bool, true, false, cond}
 use mathlib.Core.List.{List}
 use native.Mathlib.Omega.{arith}
 use lib.Dec.{eqb, ltb}
 use borrow.Author.Tests.{eqb-true}
 use Rattle.slices.specs.Parts.{Bytes}
+use Rattle.record.specs.declared.Shape.{Shape}
 use Rattle.image.specs.View.{View}
 use Rattle.image.proofs.RefusalLaws.{else-zero-l}
 use Rattle.planner.specs.Setting.{Setting, settingOf}
@@ -19,8 +20,8 @@ use Rattle.planner.specs.Answers.{planNumbers, answerNumbers, planNumbered}
 use Rattle.planner.proofs.CallLaws.{leader-accepted}
 use Rattle.planner.specs.declared.ReplicaRow.{ReplicaRow}
 use Rattle.planner.specs.declared.PlanAnswer.{PlanAnswer}
-use Rattle.protocol.specs.Call.{plan}
-use Rattle.protocol.specs.CallResult.{Result, refused, waiting, recovered, spent, countOf, callResult}
+use Rattle.protocol.specs.Call.{Call, plan}
+use Rattle.protocol.specs.CallResult.{Result, refused, waiting, recovered, spent, countOf, callResult, callBytes}
 use Rattle.recovery.specs.Answers.{numbers, planResult, stepAnswerResult, runAnswerResult, counted}
 use Rattle.recovery.specs.declared.StepAnswer.{StepAnswer}
 use Rattle.recovery.specs.declared.RunAnswer.{RunAnswer}
@@ -39,29 +40,29 @@ answer-known S W r h = go (W (S .leader) .readable) (ltb (firstWaiting S W) (end
 
 -- a cluster that is not refused has an answer
 pub not-refused :
-    (n m leader present : ℕ) (b : Bytes) (bytes rows : ℕ) →
-    planRefusal n m leader present b bytes rows ≡ 0 →
-    answer (settingOf n m leader present) (viewsIn (settingOf n m leader present) b) ≡ Refused →
+    (Z : Shape) (leader present : ℕ) (b : Bytes) (bytes rows : ℕ) →
+    planRefusal Z leader present b bytes rows ≡ 0 →
+    answer (settingOf Z leader present) (viewsIn (settingOf Z leader present) b) ≡ Refused →
     ⊥
 unfolding planRefusal lentRefusal settingOf
-not-refused n m leader present b bytes rows e =
-    answer-known (settingOf n m leader present) (viewsIn (settingOf n m leader present) b) (leader-accepted n m leader present b (else-zero-l _ _ e) .1)
+not-refused Z leader present b bytes rows e =
+    answer-known (settingOf Z leader present) (viewsIn (settingOf Z leader present) b) (leader-accepted Z leader present b (else-zero-l _ _ e) .1)
 
 -- ---- planning
 
-module _ (n m leader present : ℕ) (b : Bytes) (bytes rows : ℕ) where
+module _ (Z : Shape) (leader present : ℕ) (b : Bytes) (bytes rows : ℕ) where
   abbrev R : ℕ
-  R = planRefusal n m leader present b bytes rows
+  R = planRefusal Z leader present b bytes rows
 
   abbrev planned : Answer
-  planned = answer (settingOf n m leader present) (viewsIn (settingOf n m leader present) b)
+  planned = answer (settingOf Z leader present) (viewsIn (settingOf Z leader present) b)
 
   abbrev result : Result
-  result = callResult (numbers n m leader present) (plan bytes rows) b
+  result = callResult (numbers Z leader present) (plan bytes rows) b
 
   answered-refusal : resultRefusal (planResult (planNumbered R planned)) ≡ R
   unfolding planNumbered answerNumbers
-  answered-refusal = go (eqb R 0) planned refl (not-refused n m leader present b bytes rows)
+  answered-refusal = go (eqb R 0) planned refl (not-refused Z leader present b bytes rows)
     where
       go : (t : Bool) (x : Answer) → eqb R 0 ≡ t → (R ≡ 0 → x ≡ Refused → ⊥) → resultRefusal (planResult (cond t (answerNumbers x) (numbered.refused R))) ≡ R
       go true Refused q known = absurd (known (eqb-true _ _ q) refl)
@@ -80,7 +81,7 @@ module _ (n m leader present : ℕ) (b : Bytes) (bytes rows : ℕ) where
       × (last-status ≡ resultStatus result status)
       × (last-number ≡ resultNumber result number)
   plan-answered new old filled lent status number a {r = r} left out =
-      let q : planResult (planNumbers a) ≡ result = ap planResult (left .0) ∙ plan-result (numbers n m leader present) b bytes rows in
+      let q : planResult (planNumbers a) ≡ result = ap planResult (left .0) ∙ plan-result (numbers Z leader present) b bytes rows in
       let same : r ≡ R = out .0 ∙ ap (λ (z : Numbered (ℕ × ℕ)). resultRefusal (planResult z)) (left .0) ∙ answered-refusal in (
         out .0 ∙ ap resultRefusal q,
         left .1 ∙ ap (λ (z : ℕ). unlessRefused z new old) (sym same),
@@ -90,6 +91,20 @@ module _ (n m leader present : ℕ) (b : Bytes) (bytes rows : ℕ) where
       )
 
 -- ---- step and run
+
+-- what is said of the shape that the code makes, of the shape of the numbers
+module _ {Z Y : Shape} (z : Z ≡ Y) (leading present : ℕ) (a : Call) (b : Bytes) {after : Bytes} where
+  pub step-at :
+      {x : Result} →
+      (x ≡ callResult (numbers Z leading present) a b) × (after ≡ callBytes (numbers Z leading present) a b) →
+      (x ≡ callResult (numbers Y leading present) a b) × (after ≡ callBytes (numbers Y leading present) a b)
+  step-at {x} = subst (λ (y : Shape). (x ≡ callResult (numbers y leading present) a b) × (after ≡ callBytes (numbers y leading present) a b)) z
+
+  pub run-at :
+      {x : Result × ℕ} →
+      (x ≡ counted (callResult (numbers Z leading present) a b)) × (after ≡ callBytes (numbers Z leading present) a b) →
+      (x ≡ counted (callResult (numbers Y leading present) a b)) × (after ≡ callBytes (numbers Y leading present) a b)
+  run-at {x} = subst (λ (y : Shape). (x ≡ counted (callResult (numbers y leading present) a b)) × (after ≡ callBytes (numbers y leading present) a b)) z
 
 pub step-answered :
     (y : Result) (after new : Bytes) (a x : StepAnswer) → a ≡ x → stepAnswerResult a ≡ y → after ≡ new →

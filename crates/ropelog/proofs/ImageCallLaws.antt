@@ -1,6 +1,6 @@
 -- The two ends of every call about an image: the answer, with what is handed out, or the refusal, and nothing is.
 use Prim.Native.Nat.{ℕ, suc, _-_}
-use mathlib.Core.Path.{_≡_, refl, sym, ap, _∙_}
+use mathlib.Core.Path.{_≡_, refl, sym, ap, subst, _∙_}
 use mathlib.Core.Bool.{Bool, true, false, cond}
 use native.Mathlib.Omega.{arith}
 use lib.Dec.{eqb}
@@ -8,10 +8,44 @@ use lib.ListN.{length}
 use borrow.Author.Tests.{eqb-true}
 use Rattle.slices.specs.Parts.{Bytes, part}
 use Rattle.slices.proofs.PartLaws.{length-part}
+use Rattle.record.specs.declared.Shape.{Shape}
 use Rattle.image.specs.Scan.{SpanIn}
-use Rattle.image.specs.Answers.{Numbered, refused, value, numbered}
+use Rattle.image.specs.Append.{appended, formatted}
+use Rattle.image.specs.Read.{payloadOf, payloadAt}
+use Rattle.image.specs.Answers.{Numbered, refused, value, numbered, formatCallNumbers, readCallNumbers, epochsLeft, verdictsLeft, appendCallNumbers, payloadCallNumbers}
 use Rattle.image.specs.Refusal.{unlessRefused}
 use Rattle.ropelog.specs.Images.{flag}
+
+-- ---- what is said of the shape that the code makes, of the shape of the numbers
+
+module _ {Z Y : Shape} (z : Z ≡ Y) (c : ℕ) (b : Bytes) where
+  pub format-at :
+      {x : Numbered (Unit {0})} {after : Bytes} →
+      (x ≡ formatCallNumbers Z c (length b)) × (after ≡ formatted Z c b) →
+      (x ≡ formatCallNumbers Y c (length b)) × (after ≡ formatted Y c b)
+  format-at {x} {after} = subst (λ (y : Shape). (x ≡ formatCallNumbers y c (length b)) × (after ≡ formatted y c b)) z
+
+  pub append-at :
+      (e : ℕ) (p : Bytes) {x : Numbered ℕ} {after : Bytes} →
+      (x ≡ appendCallNumbers Z c b e (length p)) × (after ≡ appended Z c b e p) →
+      (x ≡ appendCallNumbers Y c b e (length p)) × (after ≡ appended Y c b e p)
+  append-at e p {x} {after} = subst (λ (y : Shape). (x ≡ appendCallNumbers y c b e (length p)) × (after ≡ appended y c b e p)) z
+
+  pub read-at :
+      (epochs verdicts : Bytes) {x : Numbered ℕ} {epochs′ verdicts′ : Bytes} →
+      (x ≡ readCallNumbers Z c b (length epochs) (length verdicts)) × (epochs′ ≡ epochsLeft Z c b epochs (length verdicts)) × (verdicts′ ≡ verdictsLeft Z c b (length epochs) verdicts) →
+      (x ≡ readCallNumbers Y c b (length epochs) (length verdicts)) × (epochs′ ≡ epochsLeft Y c b epochs (length verdicts)) × (verdicts′ ≡ verdictsLeft Y c b (length epochs) verdicts)
+  read-at epochs verdicts {x} {epochs′} {verdicts′} =
+      subst
+      (λ (y : Shape).
+      (x ≡ readCallNumbers y c b (length epochs) (length verdicts)) × (epochs′ ≡ epochsLeft y c b epochs (length verdicts)) × (verdicts′ ≡ verdictsLeft y c b (length epochs) verdicts))
+      z
+
+  pub has-at : (s : ℕ) {x : Numbered Bool} → x ≡ payloadCallNumbers Z c b s → x ≡ payloadCallNumbers Y c b s
+  has-at s {x} = subst (λ (y : Shape). x ≡ payloadCallNumbers y c b s) z
+
+  pub payload-at : (s : ℕ) {found : Bytes} {at : ℕ} → (found ≡ payloadOf Z c b s) × (at ≡ payloadAt Z c b s) → (found ≡ payloadOf Y c b s) × (at ≡ payloadAt Y c b s)
+  payload-at s {found} {at} = subst (λ (y : Shape). (found ≡ payloadOf y c b s) × (at ≡ payloadAt y c b s)) z
 
 -- ---- of an answer in numbers
 

@@ -1,20 +1,20 @@
 -- The two ends of every call about a piece: it is refused and leaves what it was lent, or it is answered.
 use Prim.Native.Nat.{ℕ, _≤_, _<_}
-use mathlib.Core.Path.{_≡_, refl, _∙_}
-use mathlib.Core.Bool.{true, false}
+use mathlib.Core.Path.{_≡_, refl, sym, ap, _∙_}
 use lib.ListN.{length}
 use borrow.Author.Tests.{eq-eqb, ne-eqb, le-leb, lt-leb}
 use Rattle.slices.specs.Parts.{Bytes}
-use Rattle.slices.specs.Same.{same}
 use Rattle.column.specs.ColumnState.{columnState}
 use Rattle.column.specs.declared.ColumnState.{ColumnState}
-use Rattle.record.specs.Layout.{headerBytes}
-use Rattle.record.specs.Meaning.{readRecord, readEntry}
-use Rattle.record.specs.Judged.{recordAnswer, entryAnswer}
+use Rattle.record.specs.Layout.{headerSize, headerBytes}
+use Rattle.record.specs.Meaning.{readHeader, readRecord, readEntry}
+use Rattle.record.specs.Judged.{headerAnswer, recordAnswer, entryAnswer}
+use Rattle.record.specs.declared.Shape.{Shape}
+use Rattle.record.specs.declared.HeaderState.{HeaderState}
 use Rattle.record.specs.declared.RecordState.{RecordState}
 use Rattle.record.specs.declared.EntryState.{EntryState}
 use Rattle.image.specs.Refusal.{unlessRefused}
-use Rattle.ropelog.specs.Pieces.{sizeRefusal, entryRefusal, headerCode, columnStateCode, columnStateOut, columnCode, columnOut, recordStateCode, recordStateOut, recordCode, recordOut, entryStateCode, entryStateEpochOut, entryStateSizeOut, entryCode, entryEpochOut, entrySizeOut}
+use Rattle.ropelog.specs.Pieces.{sizeRefusal, entryRefusal, headerStateCode, headerCode, columnStateCode, columnStateOut, columnCode, columnOut, recordStateCode, recordStateOut, recordCode, recordOut, entryStateCode, entryStateEpochOut, entryStateSizeOut, entryCode, entryEpochOut, entrySizeOut}
 
 pub write-wrong-size : (size : ℕ) (b new : Bytes) → (length b ≡ size → ⊥) → (3 ≡ sizeRefusal size b) × (b ≡ unlessRefused 3 new b)
 unfolding sizeRefusal unlessRefused
@@ -24,6 +24,13 @@ pub write-done :
     (size : ℕ) (b new after : Bytes) → length b ≡ size → after ≡ new → (0 ≡ sizeRefusal size b) × (after ≡ unlessRefused 0 new b)
 unfolding sizeRefusal unlessRefused
 write-done size b new after h e = (simp (eq-eqb _ _ h), e)
+
+-- a header is written for the shape of the numbers that the call was given
+pub header-wrong-size : {Z Y : Shape} (c : ℕ) (b : Bytes) {size : ℕ} → Z ≡ Y → size ≡ headerSize Z → (length b ≡ size → ⊥) → (3 ≡ sizeRefusal (headerSize Y) b) × (b ≡ unlessRefused 3 (headerBytes Y c) b)
+header-wrong-size {Z} {Y} c b z s h = write-wrong-size (headerSize Y) b (headerBytes Y c) (λ e. h (e ∙ sym (s ∙ ap headerSize z)))
+
+pub header-done : {Z Y : Shape} (c : ℕ) (b after : Bytes) {size : ℕ} → Z ≡ Y → size ≡ headerSize Z → length b ≡ size → after ≡ headerBytes Z c → (0 ≡ sizeRefusal (headerSize Y) b) × (after ≡ unlessRefused 0 (headerBytes Y c) b)
+header-done {Z} {Y} c b after z s h e = write-done (headerSize Y) b (headerBytes Y c) after (h ∙ s ∙ ap headerSize z) (e ∙ ap (λ (y : Shape). headerBytes y c) z)
 
 pub entry-wrong-size : (b p new : Bytes) → (length b ≡ 240 → ⊥) → (3 ≡ entryRefusal b p) × (b ≡ unlessRefused 3 new b)
 unfolding entryRefusal unlessRefused
@@ -38,13 +45,9 @@ pub entry-done :
 unfolding entryRefusal unlessRefused
 entry-done b p new after h l e = (simp (eq-eqb _ _ h, le-leb _ _ l), e)
 
-pub header-good : (c n m : ℕ) (b : Bytes) → same b (headerBytes c n m) ≡ true → 0 ≡ headerCode c n m b
+pub header-judged : {Z Y : Shape} (c : ℕ) (b : Bytes) (x : HeaderState) → Z ≡ Y → x ≡ headerAnswer (readHeader Z c b) → (code : ℕ) → code ≡ headerStateCode x → code ≡ headerCode Y c b
 unfolding headerCode
-header-good c n m b h = rw h
-
-pub header-other : (c n m : ℕ) (b : Bytes) → same b (headerBytes c n m) ≡ false → (code : ℕ) → code ≡ 1 → code ≡ headerCode c n m b
-unfolding headerCode
-header-other c n m b h code e = e ∙ rw h
+header-judged c b x z e code k = k ∙ ap headerStateCode (e ∙ ap (λ (y : Shape). headerAnswer (readHeader y c b)) z)
 
 pub column-too-wide : (b : Bytes) (old : ℕ) → 19 < length b → (3 ≡ columnCode b) × (old ≡ columnOut b old)
 unfolding columnCode columnOut

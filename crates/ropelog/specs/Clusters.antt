@@ -1,19 +1,20 @@
 -- What the calls about a cluster hand out.
 use Prim.Native.Nat.{ℕ}
 use Rattle.slices.specs.Parts.{Bytes}
+use Rattle.record.specs.declared.Shape.{Shape}
 use Rattle.protocol.specs.Call.{plan, step, run}
 use Rattle.protocol.specs.CallResult.{Result, refused, waiting, ready, stored, recovered, spent, callResult}
 use Rattle.recovery.specs.Answers.{numbers}
 
--- what the calls answer, of n, m, the leader's number, the present set and the cluster
-abbrev pub planCalled : ℕ → ℕ → ℕ → ℕ → Bytes → ℕ → ℕ → Result
-planCalled n m leading present b bytes rows = callResult (numbers n m leading present) (plan bytes rows) b
+-- what the calls answer, of a shape, the leader's number, the present set and the cluster
+abbrev pub planCalled : Shape → ℕ → ℕ → Bytes → ℕ → ℕ → Result
+planCalled Z leading present b bytes rows = callResult (numbers Z leading present) (plan bytes rows) b
 
-abbrev pub stepCalled : ℕ → ℕ → ℕ → ℕ → Bytes → Result
-stepCalled n m leading present b = callResult (numbers n m leading present) step b
+abbrev pub stepCalled : Shape → ℕ → ℕ → Bytes → Result
+stepCalled Z leading present b = callResult (numbers Z leading present) step b
 
-abbrev pub runCalled : ℕ → ℕ → ℕ → ℕ → Bytes → ℕ → Result
-runCalled n m leading present b budget = callResult (numbers n m leading present) (run budget) b
+abbrev pub runCalled : Shape → ℕ → ℕ → Bytes → ℕ → Result
+runCalled Z leading present b budget = callResult (numbers Z leading present) (run budget) b
 
 -- the refusal in what a call answers; 0 if it is none
 abbrev pub resultRefusal : Result → ℕ

@@ -5,13 +5,15 @@ use mathlib.Core.Bool.{cond}
 use lib.Dec.{eqb, leb}
 use lib.ListN.{length}
 use Rattle.slices.specs.Parts.{Bytes}
-use Rattle.slices.specs.Same.{same}
 use Rattle.column.specs.ColumnState.{columnState}
 use Rattle.column.specs.declared.ColumnState.{ColumnState}
 use Rattle.column.specs.declared.ColumnState.the-variants as column-state
-use Rattle.record.specs.Layout.{recordSize, entrySize, maxPayload, headerBytes}
-use Rattle.record.specs.Meaning.{readRecord, readEntry}
-use Rattle.record.specs.Judged.{recordAnswer, entryAnswer}
+use Rattle.record.specs.Layout.{recordSize, entrySize, maxPayload}
+use Rattle.record.specs.Meaning.{readHeader, readRecord, readEntry}
+use Rattle.record.specs.Judged.{headerAnswer, recordAnswer, entryAnswer}
+use Rattle.record.specs.declared.Shape.{Shape}
+use Rattle.record.specs.declared.HeaderState.{HeaderState}
+use Rattle.record.specs.declared.HeaderState.the-variants as header-state
 use Rattle.record.specs.declared.RecordState.{RecordState}
 use Rattle.record.specs.declared.RecordState.the-variants as record-state
 use Rattle.record.specs.declared.EntryState.{EntryState}
@@ -26,8 +28,12 @@ unfoldable pub entryRefusal : Bytes → Bytes → ℕ
 entryRefusal b p = cond (eqb (length b) entrySize) (cond (leb (length p) maxPayload) 0 9) 3
 
 -- 0 if the header is the writer's, else 1
-unfoldable pub headerCode : ℕ → ℕ → ℕ → Bytes → ℕ
-headerCode c n m b = cond (same b (headerBytes c n m)) 0 1
+abbrev pub headerStateCode : HeaderState → ℕ
+headerStateCode (header-state.Proper first) = 0
+headerStateCode header-state.Improper = 1
+
+unfoldable pub headerCode : Shape → ℕ → Bytes → ℕ
+headerCode Z c b = headerStateCode (headerAnswer (readHeader Z c b))
 
 -- a column's state by code, and the number that stands in it
 abbrev pub columnStateCode : ColumnState → ℕ

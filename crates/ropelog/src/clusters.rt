@@ -1,6 +1,7 @@
 // The calls about a cluster, for any lent bytes: 0, or document 01's refusal by number. A refused call changes nothing that was lent.
 ghost use mathlib.Core.Path.{_≡_};
 ghost use lib.ListN.{length};
+ghost use Rattle.record.specs.Layout.{shapeOf};
 ghost use Rattle.image.specs.Refusal.{unlessRefused};
 ghost use Rattle.protocol.specs.Call.{step, run};
 ghost use Rattle.protocol.specs.CallResult.{callBytes};
@@ -8,6 +9,7 @@ ghost use Rattle.recovery.specs.Answers.{numbers, planResult};
 ghost use Rattle.planner.specs.Answers.{planNumbers, planIn, rowsIn};
 ghost use Rattle.ropelog.specs.Clusters.{planCalled, stepCalled, runCalled};
 ghost use Rattle.ropelog.specs.Clusters.{resultRefusal, resultStatus, resultNumber, resultReplica, resultSlot, resultKind, resultStores};
+use crate::shape::shape_of;
 use planner::PlanAnswer;
 use planner::ReplicaRow;
 
@@ -45,17 +47,17 @@ pub extern "C" fn rope_plan(
     status: &mut u8,
     number: &mut usize,
 ) -> u8
-    ensures { λ r. ⌜ (r ≡ resultRefusal (planCalled n m leading present (now (cluster .entry))
+    ensures { λ r. ⌜ (r ≡ resultRefusal (planCalled (shapeOf n m) leading present (now (cluster .entry))
         (length (now (plan .entry))) (length (now (rows .entry)))))
-        × (now (plan .exit) ≡ unlessRefused r (planIn n m leading present (now (cluster .entry))) (now (plan .entry)))
-        × (now (rows .exit) ≡ unlessRefused r (rowsIn n m leading present (now (cluster .entry))) (now (rows .entry)))
-        × (now (status .exit) ≡ resultStatus (planCalled n m leading present (now (cluster .entry))
+        × (now (plan .exit) ≡ unlessRefused r (planIn (shapeOf n m) leading present (now (cluster .entry))) (now (plan .entry)))
+        × (now (rows .exit) ≡ unlessRefused r (rowsIn (shapeOf n m) leading present (now (cluster .entry))) (now (rows .entry)))
+        × (now (status .exit) ≡ resultStatus (planCalled (shapeOf n m) leading present (now (cluster .entry))
         (length (now (plan .entry))) (length (now (rows .entry)))) (now (status .entry)))
-        × (now (number .exit) ≡ resultNumber (planCalled n m leading present (now (cluster .entry))
+        × (now (number .exit) ≡ resultNumber (planCalled (shapeOf n m) leading present (now (cluster .entry))
         (length (now (plan .entry))) (length (now (rows .entry)))) (now (number .entry))) ⌝ }
 {
     hand_out(
-        plan::plan_cluster(cluster, n, m, leading, present, plan, rows),
+        plan::plan_cluster(cluster, shape_of(n, m), leading, present, plan, rows),
         status,
         number,
     )
@@ -75,14 +77,14 @@ pub extern "C" fn rope_step(
     slot: &mut usize,
     kind: &mut u8,
 ) -> u8
-    ensures { λ r. ⌜ (r ≡ resultRefusal (stepCalled n m leading present (now (cluster .entry))))
-        × (now (cluster .exit) ≡ callBytes (numbers n m leading present) step (now (cluster .entry)))
-        × (now (status .exit) ≡ resultStatus (stepCalled n m leading present (now (cluster .entry))) (now (status .entry)))
-        × (now (replica .exit) ≡ resultReplica (stepCalled n m leading present (now (cluster .entry))) (now (replica .entry)))
-        × (now (slot .exit) ≡ resultSlot (stepCalled n m leading present (now (cluster .entry))) (now (slot .entry)))
-        × (now (kind .exit) ≡ resultKind (stepCalled n m leading present (now (cluster .entry))) (now (kind .entry))) ⌝ }
+    ensures { λ r. ⌜ (r ≡ resultRefusal (stepCalled (shapeOf n m) leading present (now (cluster .entry))))
+        × (now (cluster .exit) ≡ callBytes (numbers (shapeOf n m) leading present) step (now (cluster .entry)))
+        × (now (status .exit) ≡ resultStatus (stepCalled (shapeOf n m) leading present (now (cluster .entry))) (now (status .entry)))
+        × (now (replica .exit) ≡ resultReplica (stepCalled (shapeOf n m) leading present (now (cluster .entry))) (now (replica .entry)))
+        × (now (slot .exit) ≡ resultSlot (stepCalled (shapeOf n m) leading present (now (cluster .entry))) (now (slot .entry)))
+        × (now (kind .exit) ≡ resultKind (stepCalled (shapeOf n m) leading present (now (cluster .entry))) (now (kind .entry))) ⌝ }
 {
-    match step::step_cluster(cluster, n, m, leading, present) {
+    match step::step_cluster(cluster, shape_of(n, m), leading, present) {
         recovery::StepAnswer::Stored {
             replica: on,
             slot: at,
@@ -121,13 +123,13 @@ pub extern "C" fn rope_run(
     stores: &mut u64,
     slot: &mut usize,
 ) -> u8
-    ensures { λ r. ⌜ (r ≡ resultRefusal (runCalled n m leading present (now (cluster .entry)) budget))
-        × (now (cluster .exit) ≡ callBytes (numbers n m leading present) (run budget) (now (cluster .entry)))
-        × (now (status .exit) ≡ resultStatus (runCalled n m leading present (now (cluster .entry)) budget) (now (status .entry)))
-        × (now (stores .exit) ≡ resultStores (runCalled n m leading present (now (cluster .entry)) budget) (now (stores .entry)))
-        × (now (slot .exit) ≡ resultSlot (runCalled n m leading present (now (cluster .entry)) budget) (now (slot .entry))) ⌝ }
+    ensures { λ r. ⌜ (r ≡ resultRefusal (runCalled (shapeOf n m) leading present (now (cluster .entry)) budget))
+        × (now (cluster .exit) ≡ callBytes (numbers (shapeOf n m) leading present) (run budget) (now (cluster .entry)))
+        × (now (status .exit) ≡ resultStatus (runCalled (shapeOf n m) leading present (now (cluster .entry)) budget) (now (status .entry)))
+        × (now (stores .exit) ≡ resultStores (runCalled (shapeOf n m) leading present (now (cluster .entry)) budget) (now (stores .entry)))
+        × (now (slot .exit) ≡ resultSlot (runCalled (shapeOf n m) leading present (now (cluster .entry)) budget) (now (slot .entry))) ⌝ }
 {
-    match run::run_cluster(cluster, n, m, leading, present, budget) {
+    match run::run_cluster(cluster, shape_of(n, m), leading, present, budget) {
         recovery::RunAnswer::Recovered(made) => {
             *status = 0;
             *stores = made;

@@ -3,20 +3,22 @@ ghost use Prim.Native.Nat.{suc};
 ghost use mathlib.Core.Path.{_≡_};
 ghost use lib.ListN.{length};
 ghost use Rattle.slices.specs.Parts.{part};
+ghost use Rattle.record.specs.Layout.{shapeOf};
 ghost use Rattle.image.specs.Image.{decodeImage};
 ghost use Rattle.image.specs.View.{callRefusal, readRefusal, logLength};
 ghost use Rattle.image.specs.Read.{lentRefusal, epochsOf, verdictsOf, hasPayload, payloadOf, payloadAt};
 ghost use Rattle.image.specs.Append.{appendRefusal, appended, formatted};
 ghost use Rattle.image.specs.Refusal.{unlessRefused};
 ghost use Rattle.ropelog.specs.Images.{flag};
+use crate::shape::shape_of;
 
 // Makes a fresh image in a buffer of its size.
 #[no_mangle]
 pub extern "C" fn rope_format(image: &mut [u8], replica: usize, n: usize, m: usize) -> u8
-    ensures { λ r. ⌜ (r ≡ callRefusal replica n m (length (now (image .entry))))
-        × (now (image .exit) ≡ formatted replica n m (now (image .entry))) ⌝ }
+    ensures { λ r. ⌜ (r ≡ callRefusal (shapeOf n m) replica (length (now (image .entry))))
+        × (now (image .exit) ≡ formatted (shapeOf n m) replica (now (image .entry))) ⌝ }
 {
-    match append::format_image(image, replica, n, m) {
+    match append::format_image(image, shape_of(n, m), replica) {
         image::FormatAnswer::Formatted => 0,
         image::FormatAnswer::Refused(refusal) => refusal,
     }
@@ -33,11 +35,11 @@ pub extern "C" fn rope_append(
     payload: &[u8],
     slot: &mut usize,
 ) -> u8
-    ensures { λ r. ⌜ (r ≡ appendRefusal replica n m (now (image .entry)) epoch (length (now (payload .entry))))
-        × (now (image .exit) ≡ appended replica n m (now (image .entry)) epoch (now (payload .entry)))
-        × (now (slot .exit) ≡ unlessRefused r (suc (logLength m (decodeImage replica n m (now (image .entry))))) (now (slot .entry))) ⌝ }
+    ensures { λ r. ⌜ (r ≡ appendRefusal (shapeOf n m) replica (now (image .entry)) epoch (length (now (payload .entry))))
+        × (now (image .exit) ≡ appended (shapeOf n m) replica (now (image .entry)) epoch (now (payload .entry)))
+        × (now (slot .exit) ≡ unlessRefused r (suc (logLength m (decodeImage (shapeOf n m) replica (now (image .entry))))) (now (slot .entry))) ⌝ }
 {
-    match append::append_entry(image, replica, n, m, epoch, payload) {
+    match append::append_entry(image, shape_of(n, m), replica, epoch, payload) {
         image::AppendAnswer::Slot(written) => {
             *slot = written;
             0
@@ -57,12 +59,12 @@ pub extern "C" fn rope_read(
     verdicts: &mut [u8],
     used: &mut usize,
 ) -> u8
-    ensures { λ r. ⌜ (r ≡ lentRefusal replica n m (now (image .entry)) (length (now (epochs .entry))) (length (now (verdicts .entry))))
-        × (now (epochs .exit) ≡ unlessRefused r (epochsOf m (decodeImage replica n m (now (image .entry)))) (now (epochs .entry)))
-        × (now (verdicts .exit) ≡ unlessRefused r (verdictsOf m (decodeImage replica n m (now (image .entry)))) (now (verdicts .entry)))
-        × (now (used .exit) ≡ unlessRefused r (logLength m (decodeImage replica n m (now (image .entry)))) (now (used .entry))) ⌝ }
+    ensures { λ r. ⌜ (r ≡ lentRefusal (shapeOf n m) replica (now (image .entry)) (length (now (epochs .entry))) (length (now (verdicts .entry))))
+        × (now (epochs .exit) ≡ unlessRefused r (epochsOf m (decodeImage (shapeOf n m) replica (now (image .entry)))) (now (epochs .entry)))
+        × (now (verdicts .exit) ≡ unlessRefused r (verdictsOf m (decodeImage (shapeOf n m) replica (now (image .entry)))) (now (verdicts .entry)))
+        × (now (used .exit) ≡ unlessRefused r (logLength m (decodeImage (shapeOf n m) replica (now (image .entry)))) (now (used .entry))) ⌝ }
 {
-    match read::read_image(image, replica, n, m, epochs, verdicts) {
+    match read::read_image(image, shape_of(n, m), replica, epochs, verdicts) {
         image::ReadAnswer::Length(length) => {
             *used = length;
             0
@@ -81,10 +83,10 @@ pub extern "C" fn rope_has_payload(
     slot: usize,
     has: &mut u8,
 ) -> u8
-    ensures { λ r. ⌜ (r ≡ readRefusal replica n m (now (image .entry)))
-        × (now (has .exit) ≡ unlessRefused r (flag (hasPayload m (decodeImage replica n m (now (image .entry))) slot)) (now (has .entry))) ⌝ }
+    ensures { λ r. ⌜ (r ≡ readRefusal (shapeOf n m) replica (now (image .entry)))
+        × (now (has .exit) ≡ unlessRefused r (flag (hasPayload m (decodeImage (shapeOf n m) replica (now (image .entry))) slot)) (now (has .entry))) ⌝ }
 {
-    match read::has_payload(image, replica, n, m, slot) {
+    match read::has_payload(image, shape_of(n, m), replica, slot) {
         image::PayloadAnswer::Present => {
             *has = 1;
             0
@@ -109,11 +111,11 @@ pub extern "C" fn rope_payload(
     at: &mut usize,
     size: &mut usize,
 )
-    ensures { λ _. ⌜ (now (at .exit) ≡ payloadAt replica n m (now (image .entry)) slot)
-        × (now (size .exit) ≡ length (payloadOf replica n m (now (image .entry)) slot))
-        × (part (now (image .entry)) (now (at .exit)) (now (size .exit)) ≡ payloadOf replica n m (now (image .entry)) slot) ⌝ }
+    ensures { λ _. ⌜ (now (at .exit) ≡ payloadAt (shapeOf n m) replica (now (image .entry)) slot)
+        × (now (size .exit) ≡ length (payloadOf (shapeOf n m) replica (now (image .entry)) slot))
+        × (part (now (image .entry)) (now (at .exit)) (now (size .exit)) ≡ payloadOf (shapeOf n m) replica (now (image .entry)) slot) ⌝ }
 {
-    let span = read::payload_span(image, replica, n, m, slot);
+    let span = read::payload_span(image, shape_of(n, m), replica, slot);
     let start = span.start;
     let end = span.end;
     *at = start;

@@ -4,13 +4,14 @@ ghost use mathlib.Core.Path.{_≡_};
 ghost use lib.ListN.{length};
 ghost use Rattle.checksum.specs.Checksum.{checksumOf};
 ghost use Rattle.column.specs.Column.{column};
-ghost use Rattle.record.specs.Layout.{headerSize, recordSize, entrySize, headerBytes, recordBytes, blankRecord, entryBytes, freshEntry};
+ghost use Rattle.record.specs.Layout.{shapeOf, headerSize, recordSize, entrySize, headerBytes, recordBytes, blankRecord, entryBytes, freshEntry};
 ghost use Rattle.image.specs.Refusal.{unlessRefused};
 ghost use Rattle.ropelog.specs.Pieces.{sizeRefusal, entryRefusal, headerCode, columnCode, columnOut, recordCode, recordOut, entryCode, entryEpochOut, entrySizeOut};
+use crate::shape::shape_of;
 use locate::ENTRY_SIZE;
-use locate::HEADER_SIZE;
 use locate::MAX_PAYLOAD;
 use locate::RECORD_SIZE;
+use locate::header_size;
 
 // A wider column can hold more than 64 bits.
 const WIDEST_COLUMN: usize = 19;
@@ -53,13 +54,14 @@ pub extern "C" fn rope_read_column(s: &[u8], value: &mut u64) -> u8
 // Writes a header: 0, or 3 and nothing written.
 #[no_mangle]
 pub extern "C" fn rope_write_header(s: &mut [u8], replica: usize, n: usize, m: usize) -> u8
-    ensures { λ r. ⌜ (r ≡ sizeRefusal headerSize (now (s .entry)))
-        × (now (s .exit) ≡ unlessRefused r (headerBytes replica n m) (now (s .entry))) ⌝ }
+    ensures { λ r. ⌜ (r ≡ sizeRefusal (headerSize (shapeOf n m)) (now (s .entry)))
+        × (now (s .exit) ≡ unlessRefused r (headerBytes (shapeOf n m) replica) (now (s .entry))) ⌝ }
 {
-    if s.len() != HEADER_SIZE {
+    let shape = shape_of(n, m);
+    if s.len() != header_size(shape) {
         return 3;
     }
-    write::write_header(s, replica, n, m);
+    write::write_header(s, shape, replica);
     0
 }
 
@@ -72,7 +74,7 @@ pub extern "C" fn rope_write_record(s: &mut [u8], epoch: u32, index: u32) -> u8
     if s.len() != RECORD_SIZE {
         return 3;
     }
-    write::write_record(s, epoch, index);
+    write::write_record(s, epoch, index as u64);
     0
 }
 
@@ -101,7 +103,7 @@ pub extern "C" fn rope_write_entry(s: &mut [u8], epoch: u32, index: u32, payload
     if MAX_PAYLOAD < payload.len() {
         return 9;
     }
-    write::write_entry(s, epoch, index, payload);
+    write::write_entry(s, epoch, index as u64, payload);
     0
 }
 
@@ -121,12 +123,12 @@ pub extern "C" fn rope_write_fresh_entry(s: &mut [u8]) -> u8
 // Judges a header: 0 the writer's for this replica, n and m, 1 other bytes.
 #[no_mangle]
 pub extern "C" fn rope_judge_header(s: &[u8], replica: usize, n: usize, m: usize) -> u8
-    ensures { λ r. ⌜ r ≡ headerCode replica n m (now (s .entry)) ⌝ }
+    ensures { λ r. ⌜ r ≡ headerCode (shapeOf n m) replica (now (s .entry)) ⌝ }
 {
-    if !judge::is_header(s, replica, n, m) {
-        return 1;
+    match judge::judge_header(s, shape_of(n, m), replica) {
+        record::HeaderState::Proper(_) => 0,
+        record::HeaderState::Improper => 1,
     }
-    0
 }
 
 // Judges the record of an index: 0 good and its epoch, 1 blank, 2 bad, 3 not a record's length.
@@ -138,7 +140,7 @@ pub extern "C" fn rope_judge_record(s: &[u8], index: u32, epoch: &mut u32) -> u8
     if s.len() != RECORD_SIZE {
         return 3;
     }
-    match judge::judge_record(s, index) {
+    match judge::judge_record(s, index as u64) {
         record::RecordState::Good(e) => {
             *epoch = e;
             0
@@ -158,7 +160,7 @@ pub extern "C" fn rope_judge_entry(s: &[u8], index: u32, epoch: &mut u32, size: 
     if s.len() != ENTRY_SIZE {
         return 3;
     }
-    match judge::judge_entry(s, index) {
+    match judge::judge_entry(s, index as u64) {
         record::EntryState::Intact {
             epoch: e,
             size: length,

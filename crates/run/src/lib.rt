@@ -10,7 +10,7 @@ ghost use Rattle.protocol.specs.CallResult.{runResult, callResult, callBytes};
 ghost use Rattle.recovery.specs.NextStore.{storeOf};
 ghost use Rattle.recovery.specs.Answers.{numbers, runAnswerResult, counted};
 ghost use Rattle.recovery.specs.Look.{RestBelow};
-ghost use Rattle.recovery.specs.Note.{numbersOf, ReadySurvey, SomeReadySurvey};
+ghost use Rattle.recovery.specs.Note.{ReadySurvey, SomeReadySurvey};
 use decide::open_cluster;
 use decide::plan_survey;
 use note::note_store;
@@ -18,9 +18,9 @@ use pick::first_store;
 use pick::followers_store;
 use pick::is_outstanding;
 use planner::Survey;
+use record::Shape;
 use recovery::NextStore;
 use recovery::RunAnswer;
-use recovery::Shape;
 use store::make_store;
 
 // The replica that a store is made on.
@@ -37,17 +37,17 @@ fn made_on(store: NextStore) -> usize
 
 // The first store still outstanding of a cluster with a ready plan, by its survey, once a store on replica c has been made. If c is a
 // follower, the leader and the followers before c have none.
-fn next_store(cluster: &[u8], survey: Survey, shape: Shape, c: usize) -> NextStore
-    requires { ⌜ SomeReadySurvey shape (now cluster) survey × (c < shape .n) ⌝ }
-    ensures { λ r. ⌜ ((leading present : ℕ) → ReadySurvey (numbersOf shape leading present) (now (cluster .entry)) (shape .leader) survey
-        → ((c ≡ shape .leader → ⊥) → RestBelow (named (numbersOf shape leading present)) (decode (shape .n) (shape .m) (now (cluster .entry))) c)
-        → storeOf r ≡ nextIn (named (numbersOf shape leading present)) (now (cluster .entry))) ⌝ }
+fn next_store(cluster: &[u8], survey: Survey, shape: Shape, leader: usize, c: usize) -> NextStore
+    requires { ⌜ SomeReadySurvey shape leader (now cluster) survey × (c < shape .n) ⌝ }
+    ensures { λ r. ⌜ ((leading present : ℕ) → ReadySurvey (numbers shape leading present) (now (cluster .entry)) leader survey
+        → ((c ≡ leader → ⊥) → RestBelow (named (numbers shape leading present)) (decode shape (now (cluster .entry))) c)
+        → storeOf r ≡ nextIn (named (numbers shape leading present)) (now (cluster .entry))) ⌝ }
 {
-    if c != shape.leader {
-        return followers_store(cluster, survey, shape, c);
+    if c != leader {
+        return followers_store(cluster, survey, shape, leader, c);
     }
-    let plan = plan_survey(survey, shape.n, shape.leader);
-    first_store(cluster, survey, plan, shape)
+    let plan = plan_survey(survey, shape.n, leader);
+    first_store(cluster, survey, plan, shape, leader)
 }
 
 // Spent if a store is outstanding, else recovered.
@@ -64,16 +64,15 @@ fn run_answer(store: NextStore, made: u64) -> RunAnswer
 // its number.
 pub fn run_cluster(
     cluster: &mut [u8],
-    n: usize,
-    m: usize,
+    shape: Shape,
     leading: usize,
     present: u32,
     budget: u64,
 ) -> RunAnswer
-    ensures answer { λ r. ⌜ runAnswerResult r ≡ counted (callResult (numbers n m leading present) (run budget) (now (cluster .entry))) ⌝ }
-    ensures bytes { λ _. ⌜ now (cluster .exit) ≡ callBytes (numbers n m leading present) (run budget) (now (cluster .entry)) ⌝ }
+    ensures answer { λ r. ⌜ runAnswerResult r ≡ counted (callResult (numbers shape leading present) (run budget) (now (cluster .entry))) ⌝ }
+    ensures bytes { λ _. ⌜ now (cluster .exit) ≡ callBytes (numbers shape leading present) (run budget) (now (cluster .entry)) ⌝ }
 {
-    let opening = open_cluster(cluster, n, m, leading, present);
+    let opening = open_cluster(cluster, shape, leading, present);
     let refusal = opening.refusal;
     if refusal != 0 {
         return RunAnswer::Refused(refusal);
@@ -86,18 +85,17 @@ pub fn run_cluster(
         };
     }
     let leader = opening.leader;
-    let shape = Shape { n, m, leader };
     let mut survey = opening.survey;
-    let mut store = first_store(cluster, survey, plan, shape);
+    let mut store = first_store(cluster, survey, plan, shape, leader);
     let mut made: u64 = 0;
     while made < budget {
         if !is_outstanding(store) {
             return RunAnswer::Recovered(made);
         }
-        make_store(cluster, m, store);
+        make_store(cluster, shape, store);
         made += 1;
         survey = note_store(survey, store);
-        store = next_store(cluster, survey, shape, made_on(store));
+        store = next_store(cluster, survey, shape, leader, made_on(store));
     }
     run_answer(store, made)
 }

@@ -17,7 +17,7 @@ use locate::ENTRY_SIZE;
 use locate::entry_in;
 use planner::SURVEY_SLOTS;
 use planner::action;
-use recovery::Shape;
+use record::Shape;
 
 // The lowest slot of replica c below the bound whose condition has this number; the bound if there is none.
 pub fn first_with(conditions: &[u8; SURVEY_SLOTS], c: usize, number: u8, bound: usize) -> usize
@@ -76,15 +76,15 @@ pub fn first_differing(
 }
 
 // Whether the entry of slot k of replica c differs from the leader's in any byte.
-pub fn entry_differs(cluster: &[u8], shape: Shape, c: usize, k: usize) -> bool
+pub fn entry_differs(cluster: &[u8], shape: Shape, leader: usize, c: usize, k: usize) -> bool
     requires { ⌜ (shape .m ≤ 64) × (k < shape .m) ⌝ }
-    requires { ⌜ ImageFits (shape .m) (length (now cluster)) c × ImageFits (shape .m) (length (now cluster)) (shape .leader) ⌝ }
-    ensures { λ r. ⌜ r ≡ not (same (part (now (cluster .entry)) (imageAt (shape .m) c + entryAt (shape .m) k) entrySize)
-        (part (now (cluster .entry)) (imageAt (shape .m) (shape .leader) + entryAt (shape .m) k) entrySize)) ⌝ }
+    requires { ⌜ ImageFits shape (length (now cluster)) c × ImageFits shape (length (now cluster)) leader ⌝ }
+    ensures { λ r. ⌜ r ≡ not (same (part (now (cluster .entry)) (imageAt shape c + entryAt shape k) entrySize)
+        (part (now (cluster .entry)) (imageAt shape leader + entryAt shape k) entrySize)) ⌝ }
 {
-    let own = entry_in(shape.m, c, k);
+    let own = entry_in(shape, c, k);
     let own_end = own + ENTRY_SIZE;
-    let other = entry_in(shape.m, shape.leader, k);
+    let other = entry_in(shape, leader, k);
     let other_end = other + ENTRY_SIZE;
     !copy::same_bytes(&cluster[own..own_end], &cluster[other..other_end])
 }

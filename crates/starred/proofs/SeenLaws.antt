@@ -14,7 +14,7 @@ use Rattle.planner.specs.Rules.{majority, isFaulty, dontHave, donor}
 use Rattle.planner.specs.Plan.{viewsIn}
 use Rattle.protocol.specs.Call.{named, refusalIn}
 use Rattle.protocol.specs.CallResult.{waiting}
-use Rattle.starred.specs.Cards.{noise}
+use Rattle.starred.specs.Cards.{withOne, noise}
 use Rattle.starred.specs.Sizes.{asked, cards, planned}
 
 -- f for each n from 3 to 7 and each d that leaves a majority
@@ -33,9 +33,9 @@ unfoldable pub entryOf : ℕ → ℕ → Entry
 entryOf d c = cond (eqb c 0) (broken noise) (cond (ltb d c) (intact 2 (65 ∷ [])) (broken freshEntry))
 
 pub record Seen : Type 0 where
-  pub headers : over (λ n d. listed n (λ c. decode n 1 (cards n d) c .header)) ≡ over (λ n d. listed n (λ c. proper))
-  pub records : over (λ n d. listed n (λ c. decode n 1 (cards n d) c .records 0)) ≡ over (λ n d. listed n (recordOf d))
-  pub entries : over (λ n d. listed n (λ c. decode n 1 (cards n d) c .entries 0)) ≡ over (λ n d. listed n (entryOf d))
+  pub headers : over (λ n d. listed n (λ c. decode (withOne n) (cards n d) c .header)) ≡ over (λ n d. listed n (λ c. proper))
+  pub records : over (λ n d. listed n (λ c. decode (withOne n) (cards n d) c .records 0)) ≡ over (λ n d. listed n (recordOf d))
+  pub entries : over (λ n d. listed n (λ c. decode (withOne n) (cards n d) c .entries 0)) ≡ over (λ n d. listed n (entryOf d))
   pub accepted : over (λ n d. refusalIn (asked n d) (cards n d)) ≡ over (λ n d. 0)
   pub faulty : over (λ n d. isFaulty (viewsIn (named (asked n d)) (cards n d) 0 .condition 0)) ≡ over (λ n d. true)
   pub donors : over (λ n d. donor (named (asked n d)) (viewsIn (named (asked n d)) (cards n d)) 0) ≡ over (λ n d. n)

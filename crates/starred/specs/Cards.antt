@@ -3,6 +3,7 @@ use Prim.Native.Nat.{ℕ}
 use mathlib.Core.List.{List, [], _∷_, _++_}
 use lib.ListN.{replicate}
 use Rattle.slices.specs.Parts.{Bytes}
+use Rattle.record.specs.declared.Shape.{Shape}
 use Rattle.record.specs.Layout.{headerBytes, recordBytes, blankRecord, entryBytes, freshEntry}
 use Rattle.protocol.specs.Call.{Numbers}
 
@@ -13,26 +14,33 @@ noise = replicate 240 9
 unfoldable pub scratch : Bytes
 scratch = replicate 34 9
 
+-- n replicas with one slot and with two
+abbrev pub withOne : ℕ → Shape
+withOne n = record { n = n; m = 1 }
+
+abbrev pub withTwo : ℕ → Shape
+withTwo n = record { n = n; m = 2 }
+
 -- slot k under epoch e, as written
 unfoldable pub whole : ℕ → ℕ → Bytes
 whole e k = entryBytes e k (65 ∷ [])
 
 -- an image of one slot and one of two, of replica 1 of 3
 unfoldable pub one : Bytes → Bytes → Bytes
-one r x = headerBytes 1 3 1 ++ (r ++ x)
+one r x = headerBytes (withOne 3) 1 ++ (r ++ x)
 
 unfoldable pub two : Bytes → Bytes → Bytes → Bytes → Bytes
-two r s x y = headerBytes 1 3 2 ++ (r ++ (s ++ (x ++ y)))
+two r s x y = headerBytes (withTwo 3) 1 ++ (r ++ (s ++ (x ++ y)))
 
 -- the image of replica c of n, with one slot, under epoch 2: its entry is noise; it has it; it does not
 unfoldable pub faultyOf : ℕ → ℕ → Bytes
-faultyOf n c = headerBytes c n 1 ++ (recordBytes 2 1 ++ noise)
+faultyOf n c = headerBytes (withOne n) c ++ (recordBytes 2 1 ++ noise)
 
 unfoldable pub hasOf : ℕ → ℕ → Bytes
-hasOf n c = headerBytes c n 1 ++ (recordBytes 2 1 ++ whole 2 1)
+hasOf n c = headerBytes (withOne n) c ++ (recordBytes 2 1 ++ whole 2 1)
 
 unfoldable pub lacksOf : ℕ → ℕ → Bytes
-lacksOf n c = headerBytes c n 1 ++ (blankRecord ++ freshEntry)
+lacksOf n c = headerBytes (withOne n) c ++ (blankRecord ++ freshEntry)
 
 -- of 5
 abbrev pub faulty : ℕ → Bytes
@@ -46,4 +54,4 @@ lacks = lacksOf 5
 
 -- five replicas with one slot, leader 1, and this present set
 abbrev pub five : ℕ → Numbers
-five present = record { n = 5; m = 1; leader = 1; present = present }
+five present = record { shape = withOne 5; leader = 1; present = present }

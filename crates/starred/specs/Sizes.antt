@@ -10,11 +10,11 @@ use Rattle.slices.specs.Parts.{Bytes}
 use Rattle.planner.specs.Plan.{viewsIn, planByte}
 use Rattle.protocol.specs.Call.{plan, Numbers, named}
 use Rattle.protocol.specs.CallResult.{Result, callResult, refused, ready, waiting}
-use Rattle.starred.specs.Cards.{faultyOf, hasOf, lacksOf}
+use Rattle.starred.specs.Cards.{withOne, faultyOf, hasOf, lacksOf}
 
 -- leader 1; it and the next d are present
 abbrev pub asked : ℕ → ℕ → Numbers
-asked n d = record { n = n; m = 1; leader = 1; present = 2 ^ (d + 1) - 1 }
+asked n d = record { shape = withOne n; leader = 1; present = 2 ^ (d + 1) - 1 }
 
 unfoldable pub cards : ℕ → ℕ → Bytes
 cards n d = joined n (λ c. cond (eqb c 0) (faultyOf n 1) (cond (leb c d) (lacksOf n (suc c)) (hasOf n (suc c))))

@@ -12,21 +12,21 @@ use Rattle.image.specs.Read.{hasPayload}
 use Rattle.planner.specs.Plan.{viewsIn, planByte}
 use Rattle.protocol.specs.Call.{plan, named}
 use Rattle.protocol.specs.CallResult.{Result, callResult, ready, waiting}
-use Rattle.starred.specs.Cards.{whole, one, two, has, lacks, five}
+use Rattle.starred.specs.Cards.{withOne, withTwo, whole, one, two, has, lacks, five}
 
 -- the refusal and the verdict of slot 1, whose entry is x: the last used one, or with one more behind it
 unfoldable pub last : Bytes → ℕ × ℕ
-last x = (readRefusal 1 3 1 (one (recordBytes 2 1) x), verdictAt 1 (decodeImage 1 3 1 (one (recordBytes 2 1) x)) 0)
+last x = (readRefusal (withOne 3) 1 (one (recordBytes 2 1) x), verdictAt 1 (decodeImage (withOne 3) 1 (one (recordBytes 2 1) x)) 0)
 
 unfoldable pub before : Bytes → ℕ × ℕ
 before x = (
-  readRefusal 1 3 2 (two (recordBytes 2 1) (recordBytes 2 2) x (whole 2 2)),
-  verdictAt 2 (decodeImage 1 3 2 (two (recordBytes 2 1) (recordBytes 2 2) x (whole 2 2))) 0,
+  readRefusal (withTwo 3) 1 (two (recordBytes 2 1) (recordBytes 2 2) x (whole 2 2)),
+  verdictAt 2 (decodeImage (withTwo 3) 1 (two (recordBytes 2 1) (recordBytes 2 2) x (whole 2 2))) 0,
 )
 
 -- the image of replica c of five, with one slot: its entry is of epoch 1
 unfoldable pub stale : ℕ → Bytes
-stale c = headerBytes c 5 1 ++ (recordBytes 2 1 ++ whole 1 1)
+stale c = headerBytes (withOne 5) c ++ (recordBytes 2 1 ++ whole 1 1)
 
 -- the answer of the planner for such a cluster, with this present set, and the plan byte of the slot
 unfoldable pub planned : ℕ → Bytes → Result × ℕ
@@ -44,7 +44,7 @@ pub record StalePlaces : Type 0 where
   pub fresh-last : last freshEntry ≡ (0, 4)
   pub fresh-before : before freshEntry ≡ (0, 3)
   -- no payload at 6
-  pub no-payload : hasPayload 1 (decodeImage 1 3 1 (one (recordBytes 2 1) (whole 1 1))) 1 ≡ false
+  pub no-payload : hasPayload 1 (decodeImage (withOne 3) 1 (one (recordBytes 2 1) (whole 1 1))) 1 ≡ false
   -- document 01's places for n = 5, with stale for faulty: three don't-have, one away: cut
   pub three-one : planned 15 (stale 1 ++ (lacks 2 ++ (lacks 3 ++ (lacks 4 ++ has 5)))) ≡ (ready 0, 4)
   -- two don't-have, two away: wait

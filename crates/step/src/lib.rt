@@ -8,18 +8,18 @@ ghost use Rattle.recovery.specs.Answers.{numbers, stepAnswerResult};
 ghost use Rattle.recovery.specs.OutlookIs.{OutlookIs};
 use decide::open_cluster;
 use pick::first_store;
+use record::Shape;
 use recovery::NextStore;
 use recovery::Outlook;
-use recovery::Shape;
 use recovery::StepAnswer;
 use recovery::kind;
 use store::make_store;
 
 // What stands of the recovery of a cluster: refused, waiting, or the first store still outstanding. The leader by its number.
-pub fn view_recovery(cluster: &[u8], n: usize, m: usize, leading: usize, present: u32) -> Outlook
-    ensures { λ r. ⌜ OutlookIs (numbers n m leading present) (now (cluster .entry)) r ⌝ }
+pub fn view_recovery(cluster: &[u8], shape: Shape, leading: usize, present: u32) -> Outlook
+    ensures { λ r. ⌜ OutlookIs (numbers shape leading present) (now (cluster .entry)) r ⌝ }
 {
-    let opening = open_cluster(cluster, n, m, leading, present);
+    let opening = open_cluster(cluster, shape, leading, present);
     let refusal = opening.refusal;
     if refusal != 0 {
         return Outlook::Refused(refusal);
@@ -31,8 +31,7 @@ pub fn view_recovery(cluster: &[u8], n: usize, m: usize, leading: usize, present
         return Outlook::Waiting(waiting + 1);
     }
     let leader = opening.leader;
-    let shape = Shape { n, m, leader };
-    Outlook::Ready(first_store(cluster, opening.survey, plan, shape))
+    Outlook::Ready(first_store(cluster, opening.survey, plan, shape, leader))
 }
 
 // The answer that names slot k of replica c, by their numbers.
@@ -48,8 +47,8 @@ fn stored_at(c: usize, k: usize, kind: u8) -> StepAnswer
 }
 
 // A store by its replica's and its slot's numbers, and its kind.
-fn step_answer(store: NextStore, m: usize) -> StepAnswer
-    requires { ⌜ (m ≤ 64) × StoreFits m 18446744073709551615 store ⌝ }
+fn step_answer(store: NextStore, shape: Shape) -> StepAnswer
+    requires { ⌜ (shape .m ≤ 64) × StoreFits shape 18446744073709551615 store ⌝ }
     ensures { λ r. ⌜ stepAnswerResult r ≡ stepResult (storeOf store) ⌝ }
 {
     match store {
@@ -61,22 +60,16 @@ fn step_answer(store: NextStore, m: usize) -> StepAnswer
 }
 
 // Makes the first store still outstanding of a cluster. The leader by its number.
-pub fn step_cluster(
-    cluster: &mut [u8],
-    n: usize,
-    m: usize,
-    leading: usize,
-    present: u32,
-) -> StepAnswer
-    ensures answer { λ r. ⌜ stepAnswerResult r ≡ callResult (numbers n m leading present) step (now (cluster .entry)) ⌝ }
-    ensures bytes { λ _. ⌜ now (cluster .exit) ≡ callBytes (numbers n m leading present) step (now (cluster .entry)) ⌝ }
+pub fn step_cluster(cluster: &mut [u8], shape: Shape, leading: usize, present: u32) -> StepAnswer
+    ensures answer { λ r. ⌜ stepAnswerResult r ≡ callResult (numbers shape leading present) step (now (cluster .entry)) ⌝ }
+    ensures bytes { λ _. ⌜ now (cluster .exit) ≡ callBytes (numbers shape leading present) step (now (cluster .entry)) ⌝ }
 {
-    match view_recovery(cluster, n, m, leading, present) {
+    match view_recovery(cluster, shape, leading, present) {
         Outlook::Refused(refusal) => StepAnswer::Refused(refusal),
         Outlook::Waiting(slot) => StepAnswer::Waiting(slot),
         Outlook::Ready(store) => {
-            make_store(cluster, m, store);
-            step_answer(store, m)
+            make_store(cluster, shape, store);
+            step_answer(store, shape)
         }
     }
 }

@@ -1,18 +1,21 @@
 // Stores made on the cluster's bytes. Replicas and slots count from 0.
-ghost use Prim.Native.Nat.{suc, _+_, _<_, _≤_};
+ghost use Prim.Native.Nat.{_+_, _<_, _≤_};
 ghost use mathlib.Core.Path.{_≡_};
 ghost use lib.ListN.{length};
 ghost use Rattle.slices.specs.Parts.{part, spliced};
 ghost use Rattle.record.specs.Layout.{entrySize, recordBytes, blankRecord};
-ghost use Rattle.image.specs.Image.{recordAt, entryAt};
-ghost use Rattle.image.specs.Cluster.{imageAt};
+ghost use Rattle.image.specs.Image.{index, recordAt, entryAt};
+ghost use Rattle.image.specs.Cluster.{imageAt, firstAt};
 ghost use Rattle.protocol.specs.Recovery.{after};
 ghost use Rattle.protocol.specs.StepBytes.{afterStoreBytes};
 ghost use Rattle.image.specs.Fits.{ImageFits};
 ghost use Rattle.recovery.specs.NextStore.{storeOf, StoreFits};
 use locate::ENTRY_SIZE;
+use locate::FIRST_INDEX;
 use locate::entry_in;
+use locate::index_of;
 use locate::record_in;
+use record::Shape;
 use recovery::NextStore;
 
 // The bytes of an entry, by value.
@@ -30,52 +33,52 @@ fn load_entry(s: &[u8]) -> [u8; ENTRY_SIZE]
 }
 
 // Writes the donor's entry of slot k over that of replica c.
-fn copy_entry(cluster: &mut [u8], m: usize, c: usize, k: usize, donor: usize)
-    requires { ⌜ (m ≤ 64) × (k < m) × ImageFits m (length (now cluster)) c × ImageFits m (length (now cluster)) donor ⌝ }
-    ensures { λ _. ⌜ now (cluster .exit) ≡ spliced (now (cluster .entry)) (imageAt m c + entryAt m k)
-        (part (now (cluster .entry)) (imageAt m donor + entryAt m k) entrySize) ⌝ }
+fn copy_entry(cluster: &mut [u8], shape: Shape, c: usize, k: usize, donor: usize)
+    requires { ⌜ (shape .m ≤ 64) × (k < shape .m) × ImageFits shape (length (now cluster)) c × ImageFits shape (length (now cluster)) donor ⌝ }
+    ensures { λ _. ⌜ now (cluster .exit) ≡ spliced (now (cluster .entry)) (imageAt shape c + entryAt shape k)
+        (part (now (cluster .entry)) (imageAt shape donor + entryAt shape k) entrySize) ⌝ }
 {
-    let from = entry_in(m, donor, k);
+    let from = entry_in(shape, donor, k);
     let from_end = from + ENTRY_SIZE;
     let entry = load_entry(&cluster[from..from_end]);
-    let to = entry_in(m, c, k);
+    let to = entry_in(shape, c, k);
     let to_end = to + ENTRY_SIZE;
     write::write_entry_bytes(&mut cluster[to..to_end], &entry);
 }
 
 // Writes the record of slot k of replica c for an epoch.
-fn write_record(cluster: &mut [u8], m: usize, c: usize, k: usize, epoch: u32)
-    requires { ⌜ (m ≤ 64) × (k < m) × ImageFits m (length (now cluster)) c ⌝ }
-    ensures { λ _. ⌜ now (cluster .exit) ≡ spliced (now (cluster .entry)) (imageAt m c + recordAt k) (recordBytes epoch (suc k)) ⌝ }
+fn write_record(cluster: &mut [u8], shape: Shape, c: usize, k: usize, epoch: u32)
+    requires { ⌜ (shape .m ≤ 64) × (k < shape .m) × ImageFits shape (length (now cluster)) c ⌝ }
+    ensures { λ _. ⌜ now (cluster .exit) ≡ spliced (now (cluster .entry)) (imageAt shape c + recordAt shape k) (recordBytes epoch (index (firstAt shape (now (cluster .entry)) c) k)) ⌝ }
 {
-    let at = record_in(m, c, k);
-    write::put_record(cluster, at, epoch, (k + 1) as u32);
+    let at = record_in(shape, c, k);
+    write::put_record(cluster, at, epoch, index_of(FIRST_INDEX, k));
 }
 
 // Blanks the record of slot k of replica c.
-fn blank_record(cluster: &mut [u8], m: usize, c: usize, k: usize)
-    requires { ⌜ (m ≤ 64) × (k < m) × ImageFits m (length (now cluster)) c ⌝ }
-    ensures { λ _. ⌜ now (cluster .exit) ≡ spliced (now (cluster .entry)) (imageAt m c + recordAt k) blankRecord ⌝ }
+fn blank_record(cluster: &mut [u8], shape: Shape, c: usize, k: usize)
+    requires { ⌜ (shape .m ≤ 64) × (k < shape .m) × ImageFits shape (length (now cluster)) c ⌝ }
+    ensures { λ _. ⌜ now (cluster .exit) ≡ spliced (now (cluster .entry)) (imageAt shape c + recordAt shape k) blankRecord ⌝ }
 {
-    let at = record_in(m, c, k);
+    let at = record_in(shape, c, k);
     write::put_blank(cluster, at);
 }
 
 // Makes a store.
-pub fn make_store(cluster: &mut [u8], m: usize, store: NextStore)
-    requires { ⌜ (m ≤ 64) × StoreFits m (length (now cluster)) store ⌝ }
-    ensures { λ _. ⌜ now (cluster .exit) ≡ after (storeOf store) (now (cluster .entry)) (λ s. afterStoreBytes m s (now (cluster .entry))) ⌝ }
+pub fn make_store(cluster: &mut [u8], shape: Shape, store: NextStore)
+    requires { ⌜ (shape .m ≤ 64) × StoreFits shape (length (now cluster)) store ⌝ }
+    ensures { λ _. ⌜ now (cluster .exit) ≡ after (storeOf store) (now (cluster .entry)) (λ s. afterStoreBytes shape s (now (cluster .entry))) ⌝ }
 {
     match store {
         NextStore::Nothing => {}
         NextStore::Entry { c, k, donor } => {
-            copy_entry(cluster, m, c, k, donor);
+            copy_entry(cluster, shape, c, k, donor);
         }
         NextStore::Record { c, k, epoch } => {
-            write_record(cluster, m, c, k, epoch);
+            write_record(cluster, shape, c, k, epoch);
         }
         NextStore::Blank { c, k } => {
-            blank_record(cluster, m, c, k);
+            blank_record(cluster, shape, c, k);
         }
     }
 }

@@ -14,6 +14,7 @@ use image::MAX_SLOTS;
 use locate::image_at;
 use planner::SURVEY_SLOTS;
 use planner::Survey;
+use record::Shape;
 
 // A cluster's refusal, 0 if it has none; and if it has none, its survey.
 pub struct ClusterView {
@@ -22,22 +23,22 @@ pub struct ClusterView {
 }
 
 // Refusals 1, 2, 3 and 11: what is named, and the size of the buffer.
-fn shape_refusal(size: usize, n: usize, m: usize, present: u32) -> u8
-    ensures { λ r. ⌜ r ≡ shapeRefusal n m present size ⌝ }
+fn shape_refusal(size: usize, shape: Shape, present: u32) -> u8
+    ensures { λ r. ⌜ r ≡ shapeRefusal shape present size ⌝ }
 {
-    if m < 1 {
+    if shape.m < 1 {
         return 1;
     }
-    if MAX_SLOTS < m {
+    if MAX_SLOTS < shape.m {
         return 1;
     }
-    if !vet::is_size(n) {
+    if !vet::is_size(shape.n) {
         return 2;
     }
-    if size != image_at(m, n) {
+    if size != image_at(shape, shape.n) {
         return 3;
     }
-    if (present >> n) != 0 {
+    if (present >> shape.n) != 0 {
         return 11;
     }
     0
@@ -71,17 +72,18 @@ fn no_survey() -> Survey {
 }
 
 // Judges what a call names, and surveys the cluster if it can be read.
-pub fn view_cluster(cluster: &[u8], n: usize, m: usize, leading: usize, present: u32) -> ClusterView
-    ensures refusal { λ r. ⌜ r .refusal ≡ clusterRefusal n m leading present (now (cluster .entry)) ⌝ }
+pub fn view_cluster(cluster: &[u8], shape: Shape, leading: usize, present: u32) -> ClusterView
+    ensures refusal { λ r. ⌜ r .refusal ≡ clusterRefusal shape leading present (now (cluster .entry)) ⌝ }
     ensures survey { λ r. ⌜ (r .refusal ≡ 0
-        → SurveyIs (settingOf n m leading present) (viewsIn (settingOf n m leading present) (now (cluster .entry))) n (leading - 1) (r .survey)) ⌝ }
+        → SurveyIs (settingOf shape leading present) (viewsIn (settingOf shape leading present) (now (cluster .entry))) (shape .n) (leading - 1)
+        (r .survey)) ⌝ }
 {
-    let refusal = shape_refusal(cluster.len(), n, m, present);
+    let refusal = shape_refusal(cluster.len(), shape, present);
     if refusal != 0 {
         let survey = no_survey();
         return ClusterView { refusal, survey };
     }
-    let survey = survey_cluster(cluster, n, m, present);
-    let refusal = leader_refusal(survey.readable, n, leading);
+    let survey = survey_cluster(cluster, shape, present);
+    let refusal = leader_refusal(survey.readable, shape.n, leading);
     ClusterView { refusal, survey }
 }

@@ -17,6 +17,7 @@ use locate::image_at;
 use locate::image_size;
 use planner::SURVEY_SLOTS;
 use planner::Survey;
+use record::Shape;
 use view::ImageView;
 use view::view_image;
 
@@ -24,14 +25,15 @@ pub mod sets; // sets.rt: sets of replicas as words
 pub mod cluster; // cluster.rt: a cluster's refusals, and its survey
 
 // What is seen of the image of replica c.
-fn view_replica(cluster: &[u8], n: usize, m: usize, c: usize) -> ImageView
-    requires { ⌜ (n ≤ 7) × (c < n) × (isSlots m ≡ true) × (length (now cluster) ≡ imageAt m n) ⌝ }
-    ensures refusal { λ r. ⌜ r .refusal ≡ imageRefusal m (decode n m (now (cluster .entry)) c) ⌝ }
-    ensures seen { λ r. ⌜ (r .refusal ≡ 0 → Seen m (decode n m (now (cluster .entry)) c) (r .length) (r .conditions) (r .epochs)) ⌝ }
+fn view_replica(cluster: &[u8], shape: Shape, c: usize) -> ImageView
+    requires { ⌜ (shape .n ≤ 7) × (c < shape .n) × (isSlots (shape .m) ≡ true) × (length (now cluster) ≡ imageAt shape (shape .n)) ⌝ }
+    ensures refusal { λ r. ⌜ r .refusal ≡ imageRefusal (shape .m) (decode shape (now (cluster .entry)) c) ⌝ }
+    ensures seen { λ r. ⌜ (r .refusal ≡ 0
+        → Seen (shape .m) (decode shape (now (cluster .entry)) c) (r .first) (r .length) (r .conditions) (r .epochs)) ⌝ }
 {
-    let start = image_at(m, c);
-    let end = start + image_size(m);
-    view_image(&cluster[start..end], c + 1, n, m)
+    let start = image_at(shape, c);
+    let end = start + image_size(shape, c + 1);
+    view_image(&cluster[start..end], shape, c + 1)
 }
 
 // Copies what is seen of replica c to its slots.
@@ -54,9 +56,9 @@ fn copy_slots(
 }
 
 // Surveys the present replicas of a cluster. An image that is refused leaves its replica unreadable.
-fn survey_cluster(cluster: &[u8], n: usize, m: usize, present: u32) -> Survey
-    requires { ⌜ (isSize n ≡ true) × (isSlots m ≡ true) × (length (now cluster) ≡ imageAt m n) ⌝ }
-    ensures { λ r. ⌜ ((leading : ℕ) → Surveyed n m (viewsIn (settingOf n m leading present) (now (cluster .entry)))
+fn survey_cluster(cluster: &[u8], shape: Shape, present: u32) -> Survey
+    requires { ⌜ (isSize (shape .n) ≡ true) × (isSlots (shape .m) ≡ true) × (length (now cluster) ≡ imageAt shape (shape .n)) ⌝ }
+    ensures { λ r. ⌜ ((leading : ℕ) → Surveyed (shape .n) (shape .m) (viewsIn (settingOf shape leading present) (now (cluster .entry)))
         (r .readable) (r .lengths) (r .conditions) (r .epochs)) ⌝ }
 {
     let mut readable: u32 = 0;
@@ -64,12 +66,12 @@ fn survey_cluster(cluster: &[u8], n: usize, m: usize, present: u32) -> Survey
     let mut conditions = [0u8; SURVEY_SLOTS];
     let mut epochs = [0u32; SURVEY_SLOTS];
     let mut c: usize = 0;
-    'replicas: while c < n {
+    'replicas: while c < shape.n {
         if !contains(present, c) {
             c += 1;
             continue 'replicas;
         }
-        let view = view_replica(cluster, n, m, c);
+        let view = view_replica(cluster, shape, c);
         if view.refusal != 0 {
             c += 1;
             continue 'replicas;

@@ -10,6 +10,7 @@ use image::MAX_SLOTS;
 use image::MIN_REPLICAS;
 use image::condition;
 use locate::image_size;
+use record::Shape;
 
 // Whether a cluster may have n replicas.
 pub fn is_size(n: usize) -> bool
@@ -25,9 +26,11 @@ pub fn is_size(n: usize) -> bool
 }
 
 // Refusals 1 to 3: what the caller names, and the size of the buffer.
-pub fn call_refusal(replica: usize, n: usize, m: usize, size: usize) -> u8
-    ensures { λ r. ⌜ r ≡ callRefusal replica n m size ⌝ }
+pub fn call_refusal(shape: Shape, replica: usize, size: usize) -> u8
+    ensures { λ r. ⌜ r ≡ callRefusal shape replica size ⌝ }
 {
+    let n = shape.n;
+    let m = shape.m;
     if m < 1 {
         return 1;
     }
@@ -43,7 +46,7 @@ pub fn call_refusal(replica: usize, n: usize, m: usize, size: usize) -> u8
     if n < replica {
         return 2;
     }
-    if size != image_size(m) {
+    if size != image_size(shape, replica) {
         return 3;
     }
     0

@@ -7,19 +7,22 @@ ghost use lib.Dec.{eqb};
 ghost use lib.ListN.{length, getD};
 ghost use Rattle.record.specs.Meaning.{Entry, good, bad};
 ghost use Rattle.record.specs.Judged.{recordAnswer, entryAnswer};
-ghost use Rattle.image.specs.Image.{imageSize, decodeImage};
+ghost use Rattle.image.specs.Image.{imageSize, entryAt, decodeUnder, decodeImage};
 ghost use Rattle.image.specs.View.{isSlots, imageRefusal, readRefusal};
 ghost use Rattle.image.specs.Seen.{Seen};
 ghost use Rattle.image.specs.Scan.{SlotIs, Scanned};
 use image::MAX_SLOTS;
 use image::condition;
 use locate::ENTRY_SIZE;
-use locate::HEADER_SIZE;
 use locate::RECORD_SIZE;
 use locate::entry_at;
+use locate::header_size;
+use locate::index_of;
 use locate::record_at;
 use record::EntryState;
+use record::HeaderState;
 use record::RecordState;
+use record::Shape;
 use vet::call_refusal;
 use vet::log_length;
 use vet::scan_refusal;
@@ -36,33 +39,34 @@ struct Slots {
     epochs: [u32; MAX_SLOTS],
 }
 
-// What is seen of an image: its refusal, 0 if it has none. If it has none, the log's length, and for each slot its
-// condition's number and its epoch.
+// What is seen of an image: its refusal, 0 if it has none. If it has none, the index of its first slot, the log's length, and for each slot
+// its condition's number and its epoch.
 pub struct ImageView {
     pub refusal: u8,
+    pub first: u32,
     pub length: usize,
     pub conditions: [u8; MAX_SLOTS],
     pub epochs: [u32; MAX_SLOTS],
 }
 
-// The record of slot k.
-fn record_state(image: &[u8], m: usize, k: usize) -> RecordState
-    requires { ⌜ (m ≤ 64) × (k < m) × (length (now image) ≡ imageSize m) ⌝ }
-    ensures { λ r. ⌜ ((c n : ℕ) → r ≡ recordAnswer (decodeImage c n m (now (image .entry)) .records k)) ⌝ }
+// The record of slot k, of a log whose first slot has index `first`.
+fn record_state(image: &[u8], shape: Shape, first: u32, k: usize) -> RecordState
+    requires { ⌜ (shape .m ≤ 64) × (k < shape .m) × (entryAt shape (shape .m) ≤ length (now image)) ⌝ }
+    ensures { λ r. ⌜ ((c : ℕ) → r ≡ recordAnswer (decodeUnder shape c first (now (image .entry)) .records k)) ⌝ }
 {
-    let a = record_at(k);
+    let a = record_at(shape, k);
     let e = a + RECORD_SIZE;
-    judge::judge_record(&image[a..e], (k + 1) as u32)
+    judge::judge_record(&image[a..e], index_of(first, k))
 }
 
 // The entry of slot k, judged by the part of the image that begins at its own start.
-pub fn entry_state(image: &[u8], m: usize, k: usize) -> EntryState
-    requires { ⌜ (m ≤ 64) × (k < m) × (length (now image) ≡ imageSize m) ⌝ }
-    ensures { λ r. ⌜ ((c n : ℕ) → r ≡ entryAnswer (decodeImage c n m (now (image .entry)) .entries k)) ⌝ }
+pub fn entry_state(image: &[u8], shape: Shape, first: u32, k: usize) -> EntryState
+    requires { ⌜ (shape .m ≤ 64) × (k < shape .m) × (entryAt shape (shape .m) ≤ length (now image)) ⌝ }
+    ensures { λ r. ⌜ ((c : ℕ) → r ≡ entryAnswer (decodeUnder shape c first (now (image .entry)) .entries k)) ⌝ }
 {
-    let a = entry_at(m, k);
+    let a = entry_at(shape, k);
     let e = a + ENTRY_SIZE;
-    judge::judge_entry(&image[a..e], (k + 1) as u32)
+    judge::judge_entry(&image[a..e], index_of(first, k))
 }
 
 // A slot whose record is good: whole if its entry is intact and of the same epoch, else faulty.
@@ -108,12 +112,12 @@ fn bad_slot(entry: EntryState) -> Slot
 }
 
 // One slot of the scan. A blank record's entry is not judged.
-fn slot_at(image: &[u8], m: usize, k: usize) -> Slot
-    requires { ⌜ (m ≤ 64) × (k < m) × (length (now image) ≡ imageSize m) ⌝ }
-    ensures { λ r. ⌜ ((c n : ℕ) → SlotIs (decodeImage c n m (now (image .entry)) .records k) (decodeImage c n m (now (image .entry)) .entries k)
-        (r .condition) (r .epoch)) ⌝ }
+fn slot_at(image: &[u8], shape: Shape, first: u32, k: usize) -> Slot
+    requires { ⌜ (shape .m ≤ 64) × (k < shape .m) × (entryAt shape (shape .m) ≤ length (now image)) ⌝ }
+    ensures { λ r. ⌜ ((c : ℕ) → SlotIs (decodeUnder shape c first (now (image .entry)) .records k)
+        (decodeUnder shape c first (now (image .entry)) .entries k) (r .condition) (r .epoch)) ⌝ }
 {
-    let record = record_state(image, m, k);
+    let record = record_state(image, shape, first, k);
     let RecordState::Good(epoch) = record else {
         if let RecordState::Blank = record {
             return Slot {
@@ -121,21 +125,22 @@ fn slot_at(image: &[u8], m: usize, k: usize) -> Slot
                 epoch: 0,
             };
         }
-        return bad_slot(entry_state(image, m, k));
+        return bad_slot(entry_state(image, shape, first, k));
     };
-    good_slot(epoch, entry_state(image, m, k))
+    good_slot(epoch, entry_state(image, shape, first, k))
 }
 
 // Every slot of an image.
-fn scan(image: &[u8], m: usize) -> Slots
-    requires { ⌜ (m ≤ 64) × (length (now image) ≡ imageSize m) ⌝ }
-    ensures { λ r. ⌜ ((c n : ℕ) → Scanned m (decodeImage c n m (now (image .entry))) (r .conditions) (r .epochs)) ⌝ }
+fn scan(image: &[u8], shape: Shape, first: u32) -> Slots
+    requires { ⌜ (shape .m ≤ 64) × (entryAt shape (shape .m) ≤ length (now image)) ⌝ }
+    ensures { λ r. ⌜ ((c : ℕ) → Scanned (shape .m) (decodeUnder shape c first (now (image .entry))) (r .conditions) (r .epochs)) ⌝ }
 {
+    let m = shape.m;
     let mut conditions = [condition::UNUSED; MAX_SLOTS];
     let mut epochs = [0u32; MAX_SLOTS];
     let mut k: usize = 0;
     while k < m {
-        let slot = slot_at(image, m, k);
+        let slot = slot_at(image, shape, first, k);
         conditions[k] = slot.condition;
         epochs[k] = slot.epoch;
         k += 1;
@@ -149,6 +154,7 @@ fn refused_view(refusal: u8) -> ImageView
 {
     ImageView {
         refusal,
+        first: 0,
         length: 0,
         conditions: [condition::UNUSED; MAX_SLOTS],
         epochs: [0u32; MAX_SLOTS],
@@ -156,22 +162,25 @@ fn refused_view(refusal: u8) -> ImageView
 }
 
 // Views an image whose numbers and size were judged.
-pub fn view_image(image: &[u8], replica: usize, n: usize, m: usize) -> ImageView
-    requires { ⌜ (isSlots m ≡ true) × (length (now image) ≡ imageSize m) ⌝ }
-    ensures refusal { λ r. ⌜ r .refusal ≡ imageRefusal m (decodeImage replica n m (now (image .entry))) ⌝ }
+pub fn view_image(image: &[u8], shape: Shape, replica: usize) -> ImageView
+    requires { ⌜ (isSlots (shape .m) ≡ true) × (length (now image) ≡ imageSize shape replica) ⌝ }
+    ensures refusal { λ r. ⌜ r .refusal ≡ imageRefusal (shape .m) (decodeImage shape replica (now (image .entry))) ⌝ }
     ensures seen { λ r. ⌜ (r .refusal ≡ 0
-        → Seen m (decodeImage replica n m (now (image .entry))) (r .length) (r .conditions) (r .epochs)) ⌝ }
+        → Seen (shape .m) (decodeImage shape replica (now (image .entry))) (r .first) (r .length) (r .conditions) (r .epochs)) ⌝ }
 {
-    if !judge::is_header(&image[0..HEADER_SIZE], replica, n, m) {
+    let m = shape.m;
+    let e = header_size(shape);
+    let HeaderState::Proper(first) = judge::judge_header(&image[0..e], shape, replica) else {
         return refused_view(4);
-    }
-    let seen = scan(image, m);
+    };
+    let seen = scan(image, shape, first);
     let conditions = seen.conditions;
     let epochs = seen.epochs;
     let length = log_length(&conditions, m);
     let refusal = scan_refusal(&conditions, &epochs, m, length);
     ImageView {
         refusal,
+        first,
         length,
         conditions,
         epochs,
@@ -179,16 +188,16 @@ pub fn view_image(image: &[u8], replica: usize, n: usize, m: usize) -> ImageView
 }
 
 // Views an image as the caller names it: refusals 1 to 7.
-pub fn open_image(image: &[u8], replica: usize, n: usize, m: usize) -> ImageView
-    ensures refusal { λ r. ⌜ r .refusal ≡ readRefusal replica n m (now (image .entry)) ⌝ }
+pub fn open_image(image: &[u8], shape: Shape, replica: usize) -> ImageView
+    ensures refusal { λ r. ⌜ r .refusal ≡ readRefusal shape replica (now (image .entry)) ⌝ }
     ensures seen { λ r. ⌜ (r .refusal ≡ 0
-        → Seen m (decodeImage replica n m (now (image .entry))) (r .length) (r .conditions) (r .epochs)) ⌝ }
+        → Seen (shape .m) (decodeImage shape replica (now (image .entry))) (r .first) (r .length) (r .conditions) (r .epochs)) ⌝ }
 {
-    let refusal = call_refusal(replica, n, m, image.len());
+    let refusal = call_refusal(shape, replica, image.len());
     if refusal != 0 {
         return refused_view(refusal);
     }
-    view_image(image, replica, n, m)
+    view_image(image, shape, replica)
 }
 
 // Whether a condition is whole, its record lost or not.

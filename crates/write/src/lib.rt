@@ -10,7 +10,6 @@ use locate::EDITION_AT;
 use locate::ENTRY_SIZE;
 use locate::FRONT_SIZE;
 use locate::HEADER_SEAL_AT;
-use locate::HEADER_SIZE;
 use locate::INDEX_AT;
 use locate::LENGTH_WIDTH;
 use locate::NUMBER_WIDTH;
@@ -20,6 +19,8 @@ use locate::REPLICA_AT;
 use locate::REPLICAS_AT;
 use locate::SLOTS_AT;
 use locate::SMALL_WIDTH;
+use locate::header_size;
+use record::Shape;
 
 // Writes the checksum of what stands before `at`, and a newline.
 fn put_seal(s: &mut [u8], at: usize)
@@ -31,26 +32,26 @@ fn put_seal(s: &mut [u8], at: usize)
     s[at + NUMBER_WIDTH] = b'\n';
 }
 
-// Writes the header of replica `replica` of n, for m slots.
-pub fn write_header(s: &mut [u8], replica: usize, n: usize, m: usize)
-    requires { ⌜ length (now s) ≡ headerSize ⌝ }
-    ensures { λ _. ⌜ now (s .exit) ≡ headerBytes replica n m ⌝ }
+// Writes the header of replica `replica` of a cluster of this shape.
+pub fn write_header(s: &mut [u8], shape: Shape, replica: usize)
+    requires { ⌜ length (now s) ≡ headerSize shape ⌝ }
+    ensures { λ _. ⌜ now (s .exit) ≡ headerBytes shape replica ⌝ }
 {
     copy::put_bytes(s, 0, b"rope");
     spell::put_number(s, EDITION_AT, SMALL_WIDTH, 1);
     spell::put_number(s, REPLICA_AT, SMALL_WIDTH, replica as u64);
-    spell::put_number(s, REPLICAS_AT, SMALL_WIDTH, n as u64);
-    spell::put_number(s, SLOTS_AT, SMALL_WIDTH, m as u64);
+    spell::put_number(s, REPLICAS_AT, SMALL_WIDTH, shape.n as u64);
+    spell::put_number(s, SLOTS_AT, SMALL_WIDTH, shape.m as u64);
     put_seal(s, HEADER_SEAL_AT);
 }
 
 // Writes the record of an epoch and an index.
-pub fn write_record(s: &mut [u8], epoch: u32, index: u32)
+pub fn write_record(s: &mut [u8], epoch: u32, index: u64)
     requires { ⌜ length (now s) ≡ recordSize ⌝ }
     ensures { λ _. ⌜ now (s .exit) ≡ recordBytes epoch index ⌝ }
 {
     spell::put_number(s, 0, NUMBER_WIDTH, epoch as u64);
-    spell::put_number(s, INDEX_AT, NUMBER_WIDTH, index as u64);
+    spell::put_number(s, INDEX_AT, NUMBER_WIDTH, index);
     put_seal(s, FRONT_SIZE);
 }
 
@@ -64,14 +65,14 @@ pub fn write_blank_record(s: &mut [u8])
 }
 
 // Writes the entry of an epoch, an index and a payload.
-pub fn write_entry(s: &mut [u8], epoch: u32, index: u32, payload: &[u8])
+pub fn write_entry(s: &mut [u8], epoch: u32, index: u64, payload: &[u8])
     requires { ⌜ (length (now s) ≡ entrySize) × (length (now payload) ≤ maxPayload) ⌝ }
     ensures { λ _. ⌜ now (s .exit) ≡ entryBytes epoch index (now (payload .entry)) ⌝ }
 {
     let size = payload.len();
     copy::fill_bytes(s, b' ');
     spell::put_number(s, 0, NUMBER_WIDTH, epoch as u64);
-    spell::put_number(s, INDEX_AT, NUMBER_WIDTH, index as u64);
+    spell::put_number(s, INDEX_AT, NUMBER_WIDTH, index);
     spell::put_number(s, FRONT_SIZE, LENGTH_WIDTH, size as u64);
     copy::put_bytes(s, PAYLOAD_AT, payload);
     put_seal(s, PAYLOAD_AT + size);
@@ -97,16 +98,17 @@ pub fn write_fresh_entry(s: &mut [u8])
     copy::fill_bytes(s, b' ');
 }
 
-// Writes the header of replica `replica` of n, for m slots, at the image's beginning.
-pub fn put_header(image: &mut [u8], replica: usize, n: usize, m: usize)
-    requires { ⌜ headerSize ≤ length (now image) ⌝ }
-    ensures { λ _. ⌜ now (image .exit) ≡ spliced (now (image .entry)) 0 (headerBytes replica n m) ⌝ }
+// Writes the header of replica `replica` of a cluster of this shape, at the image's beginning.
+pub fn put_header(image: &mut [u8], shape: Shape, replica: usize)
+    requires { ⌜ headerSize shape ≤ length (now image) ⌝ }
+    ensures { λ _. ⌜ now (image .exit) ≡ spliced (now (image .entry)) 0 (headerBytes shape replica) ⌝ }
 {
-    write_header(&mut image[0..HEADER_SIZE], replica, n, m);
+    let e = header_size(shape);
+    write_header(&mut image[0..e], shape, replica);
 }
 
 // Writes the record of an epoch and an index at `at`.
-pub fn put_record(image: &mut [u8], at: usize, epoch: u32, index: u32)
+pub fn put_record(image: &mut [u8], at: usize, epoch: u32, index: u64)
     requires { ⌜ at + recordSize ≤ length (now image) ⌝ }
     ensures { λ _. ⌜ now (image .exit) ≡ spliced (now (image .entry)) at (recordBytes epoch index) ⌝ }
 {
@@ -124,7 +126,7 @@ pub fn put_blank(image: &mut [u8], at: usize)
 }
 
 // Writes the entry of an epoch, an index and a payload at `at`.
-pub fn put_entry(image: &mut [u8], at: usize, epoch: u32, index: u32, payload: &[u8])
+pub fn put_entry(image: &mut [u8], at: usize, epoch: u32, index: u64, payload: &[u8])
     requires { ⌜ (at + entrySize ≤ length (now image)) × (length (now payload) ≤ maxPayload) ⌝ }
     ensures { λ _. ⌜ now (image .exit) ≡ spliced (now (image .entry)) at (entryBytes epoch index (now (payload .entry))) ⌝ }
 {

@@ -15,14 +15,14 @@ returns : tie.Need-returns
 returns c =
     let s = c .before .before .before .before .args in
     let call = c .before .call-refusal .ensures in
-    append-refused (s .replica) (s .n) (s .m) (s .image .now) (s .epoch) (s .payload .now) (refused-call (s .replica) (s .n) (s .m) (s .image .now) (s .epoch) (length (s .payload .now)) call (c .if1 .taken)) (c .if1 .taken)
+    append-refused (s .shape) (s .replica) (s .image .now) (s .epoch) (s .payload .now) (refused-call (s .shape) (s .replica) (s .image .now) (s .epoch) (length (s .payload .now)) call (c .if1 .taken)) (c .if1 .taken)
 
 view-image-requires : tie.Need-view-image-requires
 view-image-requires c κs =
     let s = c .before .before .before .before .before .args in
     let call = c .before .before .call-refusal .ensures in
     let free = c .before .if1 .left in
-    (called-slots (s .replica) (s .n) (s .m) (length (s .image .now)) (sym call ∙ free), called-size (s .replica) (s .n) (s .m) (length (s .image .now)) (sym call ∙ free))
+    (called-slots (s .shape) (s .replica) (length (s .image .now)) (sym call ∙ free), called-size (s .shape) (s .replica) (length (s .image .now)) (sym call ∙ free))
 
 same-length : tie.Need-same-length
 same-length c = search needs
@@ -33,7 +33,7 @@ returns-2 c =
     let call = c .before .before .before .before .call-refusal .ensures in
     let free = c .before .before .before .if1 .left in
     let view = c .before .view-image .ensures in
-    append-refused (s .replica) (s .n) (s .m) (s .image .now) (s .epoch) (s .payload .now) (refused-image (s .replica) (s .n) (s .m) (s .image .now) (s .epoch) (length (s .payload .now)) call free (view .0) (c .if2 .taken)) (c .if2 .taken)
+    append-refused (s .shape) (s .replica) (s .image .now) (s .epoch) (s .payload .now) (refused-image (s .shape) (s .replica) (s .image .now) (s .epoch) (length (s .payload .now)) call free (view .0) (c .if2 .taken)) (c .if2 .taken)
 
 slice-aggregate-last-epoch : tie.Need-slice-aggregate-last-epoch
 slice-aggregate-last-epoch c = search needs
@@ -46,7 +46,7 @@ last-epoch-requires c κs =
     let view = c .before .before .before .view-image .ensures in
     let readable = c .before .before .if2 .left in
     let sized : length (c .before .before .before .view-image .result .epochs) ≡ 64 = search needs in
-    omega (arith, sized, used-few (s .replica) (s .n) (s .m) (s .image .now) (s .epoch) (length (s .payload .now)) call free (view .0) readable (view .1 readable))
+    omega (arith, sized, used-few (s .shape) (s .replica) (s .image .now) (s .epoch) (length (s .payload .now)) call free (view .0) readable (view .1 readable))
 
 append-refusal-requires : tie.Need-append-refusal-requires
 append-refusal-requires c κs = search needs
@@ -61,7 +61,7 @@ returns-3 c =
     let free = c .before .before .before .before .before .before .before .before .if1 .left in
     let view = c .before .before .before .before .before .before .view-image .ensures in
     let readable = c .before .before .before .before .before .if2 .left in
-    append-refused (s .replica) (s .n) (s .m) (s .image .now) (s .epoch) (s .payload .now) (refused-append (s .replica) (s .n) (s .m) (s .image .now) (s .epoch) (length (s .payload .now)) call free (view .0) readable (view .1 readable) (c .before .before .last-epoch .ensures) (c .before .append-refusal .ensures)) (c .if3 .taken)
+    append-refused (s .shape) (s .replica) (s .image .now) (s .epoch) (s .payload .now) (refused-append (s .shape) (s .replica) (s .image .now) (s .epoch) (length (s .payload .now)) call free (view .0) readable (view .1 readable) (c .before .before .last-epoch .ensures) (c .before .append-refusal .ensures)) (c .if3 .taken)
 
 put-slot-requires : tie.Need-put-slot-requires
 put-slot-requires c κs =
@@ -70,16 +70,16 @@ put-slot-requires c κs =
     let free = c .before .before .before .before .before .before .before .before .before .if1 .left in
     let view = c .before .before .before .before .before .before .before .view-image .ensures in
     let readable = c .before .before .before .before .before .before .if2 .left in
-    slot-free (s .replica) (s .n) (s .m) (s .image .now) (s .epoch) (length (s .payload .now)) call free (view .0) readable (view .1 readable) (c .before .before .before .last-epoch .ensures) (c .before .before .append-refusal .ensures) (c .before .if3 .left)
+    slot-free (s .shape) (s .replica) (s .image .now) (s .epoch) (length (s .payload .now)) call free (view .0) readable (view .1 readable) (c .before .before .before .last-epoch .ensures) (c .before .before .append-refusal .ensures) (c .before .if3 .left)
 
-add-t13 : tie.Need-add-t13
-add-t13 c =
+add-t14 : tie.Need-add-t14
+add-t14 c =
     let s = c .before .before .before .before .before .before .before .before .before .before .before .before .before .before .before .before .args in
     let call = c .before .before .before .before .before .before .before .before .before .before .before .before .before .call-refusal .ensures in
     let free = c .before .before .before .before .before .before .before .before .before .before .before .before .if1 .left in
     let view = c .before .before .before .before .before .before .before .before .before .before .view-image .ensures in
     let readable = c .before .before .before .before .before .before .before .before .before .if2 .left in
-    omega (arith, used-few (s .replica) (s .n) (s .m) (s .image .now) (s .epoch) (length (s .payload .now)) call free (view .0) readable (view .1 readable))
+    omega (arith, used-few (s .shape) (s .replica) (s .image .now) (s .epoch) (length (s .payload .now)) call free (view .0) readable (view .1 readable))
 
 same-length-3 : tie.Need-same-length-3
 same-length-3 c = search needs
@@ -91,7 +91,7 @@ returns-4 c =
     let free = c .before .before .before .before .before .before .before .before .before .before .before .before .if1 .left in
     let view = c .before .before .before .before .before .before .before .before .before .before .view-image .ensures in
     let readable = c .before .before .before .before .before .before .before .before .before .if2 .left in
-    append-done (s .replica) (s .n) (s .m) (s .image .now) (s .epoch) (s .payload .now) (refused-append (s .replica) (s .n) (s .m) (s .image .now) (s .epoch) (length (s .payload .now)) call free (view .0) readable (view .1 readable) (c .before .before .before .before .before .before .last-epoch .ensures) (c .before .before .before .before .before .append-refusal .ensures)) (c .before .before .before .before .if3 .left) (view .1 readable .length-is) (c .before .before .put-slot .ensures)
+    append-done (s .shape) (s .replica) (s .image .now) (s .epoch) (s .payload .now) (refused-append (s .shape) (s .replica) (s .image .now) (s .epoch) (length (s .payload .now)) call free (view .0) readable (view .1 readable) (c .before .before .before .before .before .before .last-epoch .ensures) (c .before .before .before .before .before .append-refusal .ensures)) (c .before .before .before .before .if3 .left) (view .1 readable .first-is) (view .1 readable .length-is) (c .before .before .put-slot .ensures)
 
 pub append-entry-spec : {M : Type 1} → statement M
 append-entry-spec =
@@ -108,6 +108,6 @@ append-entry-spec =
     same-length-2
     returns-3
     put-slot-requires
-    add-t13
+    add-t14
     same-length-3
     returns-4)

@@ -16,7 +16,7 @@ returns : tie.Need-returns
 returns c = (c .before .before .before .view-cluster .ensures .0, λ e. absurd (c .before .if1 .taken (omega (arith, e))))
 
 sub-leader : tie.Need-sub-leader
-sub-leader c = omega (arith, leader-first _ _ _ _ _ (sym (c .before .before .view-cluster .ensures .0) ∙ c .if1 .left))
+sub-leader c = omega (arith, leader-first _ _ _ _ (sym (c .before .before .view-cluster .ensures .0) ∙ c .if1 .left))
 
 plan-survey-requires : tie.Need-plan-survey-requires
 plan-survey-requires c κs = survey-asks (c .before .before .view-cluster .ensures .1 (c .if1 .left))

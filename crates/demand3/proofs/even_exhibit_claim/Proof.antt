@@ -5,6 +5,7 @@ use mathlib.Core.Bool.{true}
 use mathlib.Core.List.{[], _∷_}
 use native.Mathlib.Omega.{arith}
 use lib.ListN.{length-replicate}
+use Rattle.image.specs.Image.{index}
 use Rattle.planner.specs.Setting.{settingOf, has}
 use Rattle.protocol.specs.Call.{run, budgetOf, refusalOf}
 use Rattle.protocol.specs.Store.{storeEntry}
@@ -26,7 +27,7 @@ played : CallList four (record { numbers = four; call = run 12 } ∷ []) evenClu
 unfolding evenTorn budgetOf refusalOf stepsBytes settingOf four
 played =
     made (run 12) (computed .go-even)
-    (interrupted 0 (storeEntry 0 0 2) (omega arith) (computed .next-even) (torn noise (unfold noise in length-replicate {A = ℕ} 240 9) (computed .noise-broken)))
+    (interrupted 0 (storeEntry 0 0 2) (omega arith) (computed .next-even) (torn {c = 0} {k = 0} noise (unfold noise in length-replicate {A = ℕ} 240 9) (unfold index in rw (computed .even-begins) (computed .noise-broken))))
     finished
 
 -- all four are present and readable

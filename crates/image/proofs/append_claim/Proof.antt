@@ -10,15 +10,15 @@ use Rattle.image.proofs.append_claim.Tie as tie
 
 returns : tie.Need-returns
 returns z = record {
-  fresh = λ c n m h. record {
-    size = length-fresh-image c n m;
-    readable = fresh-readable c n m h;
-    none = fresh-length c n m;
-    blanks = λ k x. fresh-blank c n m k;
-    verdicts = fresh-verdict c n m;
+  fresh = λ Z c h. record {
+    size = length-fresh-image Z c;
+    readable = fresh-readable Z c h;
+    none = fresh-length Z c;
+    blanks = λ k x. fresh-blank Z c k;
+    verdicts = fresh-verdict Z c;
   };
-  one = λ c n m b e p high ok.
-      one-more c n m b e p (appended c n m b e p) high (accepts-elim c n m b e (length p) ok) (appended-stored c n m b e p ok);
+  one = λ Z c b e p high ok.
+      one-more Z c b e p (appended Z c b e p) high (accepts-elim Z c b e (length p) ok) (appended-stored Z c b e p ok);
   several = several-read;
   at-last-epoch = last-epoch-again;
 }

@@ -6,9 +6,9 @@ use Rattle.image.proofs.last_entry_claim.Tie as tie
 
 returns : tie.Need-returns
 returns z = record {
-  untold = λ c n m b k r v. untold c n m b k r (omega (arith, v));
+  untold = λ Z c b k r v. untold Z c b k r (omega (arith, v));
   torn = torn;
-  stale-untold = λ c n m b k r v last. stale-untold c n m b k r v (omega (arith, last));
+  stale-untold = λ Z c b k r v last. stale-untold Z c b k r v (omega (arith, last));
   stale-not-torn = stale-not-torn;
 }
 

@@ -1,5 +1,7 @@
 use mathlib.Core.Path.{_∙_, ap}
 use Rattle.slices.specs.Same.{same}
+use native.Mathlib.Omega.{arith}
+use Rattle.record.proofs.LayoutLaws.{header-size-is}
 use borrow.Author.Needs.{needs}
 use Rattle.judge.proofs.is_header.Statement.{statement}
 use Rattle.judge.proofs.is_header.Tie as tie
@@ -8,7 +10,7 @@ slice-aggregate-write-header : tie.Need-slice-aggregate-write-header
 slice-aggregate-write-header c = search needs
 
 write-header-requires : tie.Need-write-header-requires
-write-header-requires c κs = search needs
+write-header-requires c κs = omega (arith, header-size-is (c .before .before .args .shape))
 
 slice-aggregate-same-bytes : tie.Need-slice-aggregate-same-bytes
 slice-aggregate-same-bytes c = search needs

@@ -1,4 +1,5 @@
 -- Behind the images before its own.
+use Prim.Native.Nat.{suc}
 use Rattle.image.proofs.DecodeLaws.{entry-fits}
 use native.Mathlib.Omega.{arith}
 use borrow.Author.Needs.{needs}
@@ -12,7 +13,7 @@ entry-at-requires : tie.Need-entry-at-requires
 entry-at-requires c κs = search needs
 
 add-result : tie.Need-add-result
-add-result c = omega (arith, entry-fits (c .before .before .args .m) (c .before .before .args .k) (c .before .before .pre .1))
+add-result c = omega (arith, entry-fits (c .before .before .args .shape) (suc (c .before .before .args .c)) (c .before .before .args .k) (c .before .before .pre .1))
 
 returns : tie.Need-returns
 returns c = search needs

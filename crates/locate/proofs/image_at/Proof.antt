@@ -1,6 +1,6 @@
 -- The images before it.
 use Prim.Native.Nat.{ℕ, _*_}
-use mathlib.Core.Path.{_≡_, sym, ap, _∙_}
+use mathlib.Core.Path.{ap}
 use Rattle.image.proofs.ClusterLaws.{image-at}
 use native.Mathlib.Omega.{arith}
 use borrow.Author.Needs.{needs}
@@ -11,10 +11,10 @@ image-size-requires : tie.Need-image-size-requires
 image-size-requires c κs = search needs
 
 mul-result : tie.Need-mul-result
-mul-result c = omega (arith, image-at (c .before .args .m) (c .before .args .c), ap (λ (z : ℕ). z * c .before .args .c) (c .image-size .ensures))
+mul-result c = omega (arith, image-at (c .before .args .shape) (c .before .args .c), ap (λ (z : ℕ). z * c .before .args .c) (c .image-size .ensures))
 
 returns : tie.Need-returns
-returns c = ap (λ (z : ℕ). z * c .before .args .c) (c .image-size .ensures) ∙ sym (image-at (c .before .args .m) (c .before .args .c))
+returns c = omega (arith, image-at (c .before .args .shape) (c .before .args .c), ap (λ (z : ℕ). z * c .before .args .c) (c .image-size .ensures))
 
 pub image-at-spec : {M : Type 1} → statement M
 image-at-spec = tie.close (tie.spec image-size-requires mul-result returns)

@@ -1,9 +1,13 @@
 -- The layout, with the constants in their places.
-use Rattle.image.specs.Image.{imageSize}
+use Rattle.record.proofs.LayoutLaws.{header-size-is}
+use Rattle.image.proofs.DecodeLaws.{size-is}
 use native.Mathlib.Omega.{arith}
 use borrow.Author.Needs.{needs}
 use Rattle.locate.proofs.image_size.Statement.{statement}
 use Rattle.locate.proofs.image_size.Tie as tie
+
+header-size-requires : tie.Need-header-size-requires
+header-size-requires c κs = search needs
 
 add-result : tie.Need-add-result
 add-result c = search needs
@@ -12,11 +16,10 @@ mul-result : tie.Need-mul-result
 mul-result c = search needs
 
 add-result-2 : tie.Need-add-result-2
-add-result-2 c = search needs
+add-result-2 c = omega (arith, header-size-is (c .before .before .args .shape))
 
 returns : tie.Need-returns
-unfolding imageSize
-returns c = omega arith
+returns c = omega (arith, size-is (c .before .before .args .shape) (c .before .before .args .replica))
 
 pub image-size-spec : {M : Type 1} → statement M
-image-size-spec = tie.close (tie.spec add-result mul-result add-result-2 returns)
+image-size-spec = tie.close (tie.spec header-size-requires add-result mul-result add-result-2 returns)

@@ -35,9 +35,9 @@ returns : tie.Need-returns
 returns c =
     λ S v.
     let s = v .survey-is in
-    let x = looked-leader s (v .slots-are) in
+    let x = looked-leader s (v .shape-is) in
     let h = c .before .before .before .before .before .before .before .pre .replica-below in
-    let y = looked s (v .slots-are) _ h (sym (s .surveyed .readable-is _ h) ∙ c .before .before .before .before .before .before .before .pre .replica-reads) in
+    let y = looked s (v .shape-is) _ h (sym (s .surveyed .readable-is _ h) ∙ c .before .before .before .before .before .before .before .pre .replica-reads) in
     follower-blanks S (viewsIn S (c .before .before .before .before .before .before .before .args .cluster .now)) _ _ _ (s .leader-is) _ _ _ _ _ x y _ (c .before .first-differing .ensures) (c .if1 .taken)
 
 first-with-requires : tie.Need-first-with-requires
@@ -52,9 +52,9 @@ returns-2 : tie.Need-returns-2
 returns-2 c =
     λ S v.
     let s = v .survey-is in
-    let x = looked-leader s (v .slots-are) in
+    let x = looked-leader s (v .shape-is) in
     let h = c .before .before .before .before .before .before .before .before .before .before .before .pre .replica-below in
-    let y = looked s (v .slots-are) _ h (sym (s .surveyed .readable-is _ h) ∙ c .before .before .before .before .before .before .before .before .before .before .before .pre .replica-reads) in
+    let y = looked s (v .shape-is) _ h (sym (s .surveyed .readable-is _ h) ∙ c .before .before .before .before .before .before .before .before .before .before .before .pre .replica-reads) in
     follower-mends S (viewsIn S (c .before .before .before .before .before .before .before .before .before .before .before .args .cluster .now)) _ _ _ (s .leader-is) _ _ _ _ _ x y _ (c .before .before .before .before .before .first-differing .ensures) (c .before .before .before .before .if1 .left) _ _ (c .before .first-with .ensures) (c .if2 .taken) (omega arith)
 
 first-with-requires-2 : tie.Need-first-with-requires-2
@@ -90,9 +90,9 @@ returns-3 : tie.Need-returns-3
 returns-3 c =
     λ S v.
     let s = v .survey-is in
-    let x = looked-leader s (v .slots-are) in
+    let x = looked-leader s (v .shape-is) in
     let h = c .before .before .before .before .before .before .before .before .before .before .before .before .before .before .before .before .pre .replica-below in
-    let y = looked s (v .slots-are) _ h (sym (s .surveyed .readable-is _ h) ∙ c .before .before .before .before .before .before .before .before .before .before .before .before .before .before .before .before .pre .replica-reads) in
+    let y = looked s (v .shape-is) _ h (sym (s .surveyed .readable-is _ h) ∙ c .before .before .before .before .before .before .before .before .before .before .before .before .before .before .before .before .pre .replica-reads) in
     follower-rewrites S (viewsIn S (c .before .before .before .before .before .before .before .before .before .before .before .before .before .before .before .before .args .cluster .now)) _ _ _ (s .leader-is) _ _ _ _ _ x y _ (c .before .before .before .before .before .before .before .before .before .before .first-differing .ensures) (c .before .before .before .before .before .before .before .before .before .if1 .left) _ (c .before .before .before .before .before .before .first-with .ensures) (c .before .before .before .before .before .if2 .left) _ (c .before .before .first-with2 .ensures) (c .before .if3 .taken)
 
 missing-store-requires : tie.Need-missing-store-requires
@@ -102,9 +102,9 @@ returns-4 : tie.Need-returns-4
 returns-4 c =
     λ S v.
     let s = v .survey-is in
-    let x = looked-leader s (v .slots-are) in
+    let x = looked-leader s (v .shape-is) in
     let h = c .before .before .before .before .before .before .before .before .before .before .before .before .before .before .before .before .pre .replica-below in
-    let y = looked s (v .slots-are) _ h (sym (s .surveyed .readable-is _ h) ∙ c .before .before .before .before .before .before .before .before .before .before .before .before .before .before .before .before .pre .replica-reads) in
+    let y = looked s (v .shape-is) _ h (sym (s .surveyed .readable-is _ h) ∙ c .before .before .before .before .before .before .before .before .before .before .before .before .before .before .before .before .pre .replica-reads) in
     past-records S (viewsIn S (c .before .before .before .before .before .before .before .before .before .before .before .before .before .before .before .before .args .cluster .now)) _ _ _ (s .leader-is) _ _ _ _ _ x y _ (c .before .before .before .before .before .before .before .before .before .before .first-differing .ensures) (c .before .before .before .before .before .before .before .before .before .if1 .left) _ (c .before .before .before .before .before .before .first-with .ensures) (c .before .before .before .before .before .if2 .left) _ (c .before .before .first-with2 .ensures) (c .before .if3 .left) (c .missing-store .ensures S v)
 
 pub follower-store-spec : {M : Type 1} → statement M

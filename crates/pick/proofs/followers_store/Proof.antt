@@ -12,11 +12,11 @@ use Rattle.pick.proofs.followers_store.Statement.{statement}
 use Rattle.pick.proofs.followers_store.Tie as tie
 
 abbrev Inv-loop : tie.InvT-loop
-Inv-loop cluster survey shape from c₀ c = (c ≤ shape .n) × ((S : Setting) → Sees S cluster shape survey → ((j : ℕ) → j < from → isSome (due S (clusterIn S cluster) j) ≡ false)
+Inv-loop cluster survey shape leader from c₀ c = (c ≤ shape .n) × ((S : Setting) → Sees S cluster shape leader survey → ((j : ℕ) → j < from → isSome (due S (clusterIn S cluster) j) ≡ false)
     → (j : ℕ) → j < c → isSome (due S (clusterIn S cluster) j) ≡ false)
 
 abbrev μ-loop : tie.MeasureT-loop
-μ-loop cluster survey shape from c₀ c = shape .n - c
+μ-loop cluster survey shape leader from c₀ c = shape .n - c
 
 loop-holds : tie.Need-loop-holds Inv-loop μ-loop
 loop-holds c = (c .before .pre .1, λ S v rest. rest)

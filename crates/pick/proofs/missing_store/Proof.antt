@@ -28,9 +28,9 @@ returns : tie.Need-returns
 returns c =
     λ S v.
     let s = v .survey-is in
-    let x = looked-leader s (v .slots-are) in
+    let x = looked-leader s (v .shape-is) in
     let h = c .before .before .before .before .pre .replica-below in
-    let y = looked s (v .slots-are) _ h (sym (s .surveyed .readable-is _ h) ∙ c .before .before .before .before .pre .replica-reads) in
+    let y = looked s (v .shape-is) _ h (sym (s .surveyed .readable-is _ h) ∙ c .before .before .before .before .pre .replica-reads) in
     missing-none S (viewsIn S (c .before .before .before .before .args .cluster .now)) (unlike S (clusterIn S (c .before .before .before .before .args .cluster .now)) (c .before .before .before .before .args .c)) _ _ (s .leader-is) _ _ _ _ _ x y (c .if1 .taken)
 
 entry-differs-requires : tie.Need-entry-differs-requires
@@ -54,20 +54,20 @@ returns-2 : tie.Need-returns-2
 returns-2 c =
     λ S v.
     let s = v .survey-is in
-    let x = looked-leader s (v .slots-are) in
+    let x = looked-leader s (v .shape-is) in
     let h = c .before .before .before .before .before .before .before .pre .replica-below in
-    let y = looked s (v .slots-are) _ h (sym (s .surveyed .readable-is _ h) ∙ c .before .before .before .before .before .before .before .pre .replica-reads) in
-    let u = unlike-found S (c .before .before .before .before .before .before .before .args .cluster .now) _ _ _ _ (v .slots-are) (s .leader-is) (y .length-is) (omega arith) in
+    let y = looked s (v .shape-is) _ h (sym (s .surveyed .readable-is _ h) ∙ c .before .before .before .before .before .before .before .pre .replica-reads) in
+    let u = unlike-found S (c .before .before .before .before .before .before .before .args .cluster .now) _ _ _ _ (v .shape-is) (s .leader-is) (y .length-is) (omega arith) in
     missing-record S (viewsIn S (c .before .before .before .before .before .before .before .args .cluster .now)) _ _ _ (s .leader-is) _ _ _ _ _ x y (c .before .before .before .if1 .left) (u ∙ sym (c .before .before .entry-differs .ensures) ∙ not-true _ (c .before .if2 .taken))
 
 returns-3 : tie.Need-returns-3
 returns-3 c =
     λ S v.
     let s = v .survey-is in
-    let x = looked-leader s (v .slots-are) in
+    let x = looked-leader s (v .shape-is) in
     let h = c .before .before .before .before .before .before .pre .replica-below in
-    let y = looked s (v .slots-are) _ h (sym (s .surveyed .readable-is _ h) ∙ c .before .before .before .before .before .before .pre .replica-reads) in
-    let u = unlike-found S (c .before .before .before .before .before .before .args .cluster .now) _ _ _ _ (v .slots-are) (s .leader-is) (y .length-is) (omega arith) in
+    let y = looked s (v .shape-is) _ h (sym (s .surveyed .readable-is _ h) ∙ c .before .before .before .before .before .before .pre .replica-reads) in
+    let u = unlike-found S (c .before .before .before .before .before .before .args .cluster .now) _ _ _ _ (v .shape-is) (s .leader-is) (y .length-is) (omega arith) in
     missing-entry S (viewsIn S (c .before .before .before .before .before .before .args .cluster .now)) _ _ _ (s .leader-is) _ _ _ _ _ x y (c .before .before .if1 .left) (u ∙ sym (c .before .entry-differs .ensures) ∙ not-false _ (c .if2 .left))
 
 pub missing-store-spec : {M : Type 1} → statement M

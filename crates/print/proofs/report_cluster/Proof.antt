@@ -16,7 +16,7 @@ report-refusal-requires : tie.Need-report-refusal-requires
 report-refusal-requires c κs = search needs
 
 returns : tie.Need-returns
-returns c = law.prints (law.refused-report _ _ _ _ _ (c .before .before .open-cluster .ensures .0) (c .before .if1 .taken)) (c .report-refusal .ensures)
+returns c = law.prints (law.refused-report _ _ _ _ (c .before .before .open-cluster .ensures .0) (c .before .if1 .taken)) (c .report-refusal .ensures)
 
 report-plan-requires : tie.Need-report-plan-requires
 report-plan-requires c κs =
@@ -27,7 +27,7 @@ returns-2 : tie.Need-returns-2
 returns-2 c =
     let e = c .before .before .open-cluster .ensures in
     let z = c .before .if1 .left in
-    law.prints (law.planned-report _ _ _ _ _ (sym (e .0) ∙ z)) (c .report-plan .ensures _ _ (e .1 z .survey-is) (e .1 z .plan-is))
+    law.prints (law.planned-report _ _ _ _ (sym (e .0) ∙ z)) (c .report-plan .ensures _ _ (e .1 z .survey-is) (e .1 z .plan-is))
 
 pub report-cluster-spec : {M : Type 1} → statement M
 report-cluster-spec =

@@ -13,7 +13,7 @@ returns : tie.Need-returns
 returns c = payload-refused _ _ _ (c .before .open-image .ensures .0) (c .if1 .taken)
 
 holds-payload-requires : tie.Need-holds-payload-requires
-holds-payload-requires c κs = slots-high _ (opened-slots _ _ _ _ _ (c .before .before .before .open-image .ensures .0) (c .before .before .if1 .left))
+holds-payload-requires c κs = slots-high _ (opened-slots _ _ _ _ (c .before .before .before .open-image .ensures .0) (c .before .before .if1 .left))
 
 returns-2 : tie.Need-returns-2
 returns-2 c = payload-present _ _ _ _ (c .before .before .before .before .before .open-image .ensures .0) (c .before .before .before .before .if1 .left) (c .before .holds-payload .ensures _ (c .before .before .before .before .before .open-image .ensures .1 (c .before .before .before .before .if1 .left) .conditions-are)) (c .if2 .taken)

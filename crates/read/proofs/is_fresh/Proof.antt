@@ -1,5 +1,5 @@
 -- `is_fresh` looks at the part of the image at which the entry of slot k stands.
-use Rattle.image.proofs.DecodeLaws.{entry-fits}
+use Rattle.image.proofs.DecodeLaws.{entry-ends}
 use Rattle.image.proofs.VerdictSteps.{fresh-judged}
 use native.Mathlib.Omega.{arith}
 use borrow.Author.Needs.{needs}
@@ -10,7 +10,7 @@ entry-at-requires : tie.Need-entry-at-requires
 entry-at-requires c κs = search needs
 
 add-e : tie.Need-add-e
-add-e c = omega (arith, entry-fits (c .before .before .args .m) (c .before .before .args .k) (c .before .before .pre .1))
+add-e c = omega (arith, entry-ends (c .before .before .args .shape) (c .before .before .args .k) (c .before .before .pre .1), c .before .before .pre .2)
 
 sub-all-bytes : tie.Need-sub-all-bytes
 sub-all-bytes c = search needs
@@ -19,13 +19,13 @@ part-all-bytes-start : tie.Need-part-all-bytes-start
 part-all-bytes-start c = search needs
 
 part-all-bytes-end : tie.Need-part-all-bytes-end
-part-all-bytes-end c = omega (arith, entry-fits (c .before .before .args .m) (c .before .before .args .k) (c .before .before .pre .1), c .before .before .pre .2)
+part-all-bytes-end c = omega (arith, entry-ends (c .before .before .args .shape) (c .before .before .args .k) (c .before .before .pre .1), c .before .before .pre .2)
 
 all-bytes-requires : tie.Need-all-bytes-requires
 all-bytes-requires c κs = search needs
 
 returns : tie.Need-returns
-returns c = λ i n. fresh-judged _ _ _ (c .before .before .before .before .pre .2) (c .before .before .entry-at .ensures) (c .all-bytes .ensures) i n (c .before .before .before .before .pre .1)
+returns c = λ i first. fresh-judged _ first _ _ (c .before .before .before .before .pre .2) (c .before .before .entry-at .ensures) (c .all-bytes .ensures) i (c .before .before .before .before .pre .1)
 
 pub is-fresh-spec : {M : Type 1} → statement M
 is-fresh-spec =

@@ -1,6 +1,7 @@
 -- `read_image` writes only once nothing refuses.
 use Rattle.image.proofs.CallLaws.{slots-high}
 use Rattle.image.proofs.ReadLaws.{opened-slots, opened-size, lent-refused, lent-epochs, lent-verdicts, lent-none, read-refused, read-done, seen-verdicts, seen-epochs}
+use Rattle.image.proofs.DecodeLaws.{entries-end, under-first}
 use native.Mathlib.Omega.{arith}
 use borrow.Author.Needs.{needs}
 use Rattle.read.proofs.read_image.Statement.{statement}
@@ -10,19 +11,19 @@ open-image-requires : tie.Need-open-image-requires
 open-image-requires c κs = search needs
 
 returns : tie.Need-returns
-returns c = read-refused (lent-refused _ _ _ _ _ _ _ (c .before .open-image .ensures .0) (c .if1 .taken)) (c .if1 .taken) _ _ _ _ _
+returns c = read-refused (lent-refused _ _ _ _ _ _ (c .before .open-image .ensures .0) (c .if1 .taken)) (c .if1 .taken) _ _ _ _ _
 
 returns-2 : tie.Need-returns-2
-returns-2 c = read-refused (lent-epochs _ _ _ _ _ _ _ (c .before .before .open-image .ensures .0) (c .before .if1 .left) (c .if2 .taken)) (λ e. omega (arith, e)) _ _ _ _ _
+returns-2 c = read-refused (lent-epochs _ _ _ _ _ _ (c .before .before .open-image .ensures .0) (c .before .if1 .left) (c .if2 .taken)) (λ e. omega (arith, e)) _ _ _ _ _
 
 returns-3 : tie.Need-returns-3
-returns-3 c = read-refused (lent-verdicts _ _ _ _ _ _ _ (c .before .before .before .open-image .ensures .0) (c .before .before .if1 .left) (c .if3 .taken)) (λ e. omega (arith, e)) _ _ _ _ _
+returns-3 c = read-refused (lent-verdicts _ _ _ _ _ _ (c .before .before .before .open-image .ensures .0) (c .before .before .if1 .left) (c .if3 .taken)) (λ e. omega (arith, e)) _ _ _ _ _
 
 fill-epochs-requires : tie.Need-fill-epochs-requires
-fill-epochs-requires c κs = omega (arith, slots-high _ (opened-slots _ _ _ _ _ (c .before .before .before .before .before .before .before .open-image .ensures .0) (c .before .before .before .before .before .before .if1 .left)), c .before .before .before .before .before .if2 .left)
+fill-epochs-requires c κs = omega (arith, slots-high _ (opened-slots _ _ _ _ (c .before .before .before .before .before .before .before .open-image .ensures .0) (c .before .before .before .before .before .before .if1 .left)), c .before .before .before .before .before .if2 .left)
 
 fill-verdicts-requires : tie.Need-fill-verdicts-requires
-fill-verdicts-requires c κs = (slots-high _ (opened-slots _ _ _ _ _ (c .before .before .before .before .before .before .before .before .before .before .before .before .open-image .ensures .0) (c .before .before .before .before .before .before .before .before .before .before .before .if1 .left)), opened-size _ _ _ _ _ (c .before .before .before .before .before .before .before .before .before .before .before .before .open-image .ensures .0) (c .before .before .before .before .before .before .before .before .before .before .before .if1 .left), c .before .before .before .before .before .before .before .before .before .if3 .left)
+fill-verdicts-requires c κs = (slots-high _ (opened-slots _ _ _ _ (c .before .before .before .before .before .before .before .before .before .before .before .before .open-image .ensures .0) (c .before .before .before .before .before .before .before .before .before .before .before .if1 .left)), omega (arith, opened-size _ _ _ _ (c .before .before .before .before .before .before .before .before .before .before .before .before .open-image .ensures .0) (c .before .before .before .before .before .before .before .before .before .before .before .if1 .left), entries-end (c .before .before .before .before .before .before .before .before .before .before .before .before .before .before .before .before .args .shape) (c .before .before .before .before .before .before .before .before .before .before .before .before .before .before .before .before .args .replica)), c .before .before .before .before .before .before .before .before .before .if3 .left)
 
 same-length : tie.Need-same-length
 same-length c = search needs
@@ -31,7 +32,7 @@ same-length-2 : tie.Need-same-length-2
 same-length-2 c = search needs
 
 returns-4 : tie.Need-returns-4
-returns-4 c = read-done (lent-none _ _ _ _ _ _ _ (c .before .before .before .before .before .before .before .before .before .before .before .before .before .before .before .open-image .ensures .0) (c .before .before .before .before .before .before .before .before .before .before .before .before .before .before .if1 .left) (c .before .before .before .before .before .before .before .before .before .before .before .before .before .if2 .left) (c .before .before .before .before .before .before .before .before .before .before .before .before .if3 .left)) _ _ _ _ _ _ _ _ ((c .before .before .before .before .before .before .before .before .before .before .before .before .before .before .before .open-image .ensures .1 (c .before .before .before .before .before .before .before .before .before .before .before .before .before .before .if1 .left)) .length-is) (seen-epochs _ _ _ _ _ (c .before .before .before .before .before .before .before .before .before .before .before .before .before .before .before .open-image .ensures .1 (c .before .before .before .before .before .before .before .before .before .before .before .before .before .before .if1 .left)) _ (c .before .before .before .before .before .before .before .before .before .before .before .before .before .if2 .left) (c .before .before .before .before .before .before .before .fill-epochs .ensures)) (seen-verdicts _ _ _ _ _ (c .before .before .before .before .before .before .before .before .before .before .before .before .before .before .before .open-image .ensures .1 (c .before .before .before .before .before .before .before .before .before .before .before .before .before .before .if1 .left)) (c .before .before .fill-verdicts .ensures _ _))
+returns-4 c = read-done (lent-none _ _ _ _ _ _ (c .before .before .before .before .before .before .before .before .before .before .before .before .before .before .before .open-image .ensures .0) (c .before .before .before .before .before .before .before .before .before .before .before .before .before .before .if1 .left) (c .before .before .before .before .before .before .before .before .before .before .before .before .before .if2 .left) (c .before .before .before .before .before .before .before .before .before .before .before .before .if3 .left)) _ _ _ _ _ _ _ _ ((c .before .before .before .before .before .before .before .before .before .before .before .before .before .before .before .open-image .ensures .1 (c .before .before .before .before .before .before .before .before .before .before .before .before .before .before .if1 .left)) .length-is) (seen-epochs _ _ _ _ _ (c .before .before .before .before .before .before .before .before .before .before .before .before .before .before .before .open-image .ensures .1 (c .before .before .before .before .before .before .before .before .before .before .before .before .before .before .if1 .left)) _ (c .before .before .before .before .before .before .before .before .before .before .before .before .before .if2 .left) (c .before .before .before .before .before .before .before .fill-epochs .ensures)) (seen-verdicts _ _ _ _ _ (c .before .before .before .before .before .before .before .before .before .before .before .before .before .before .before .open-image .ensures .1 (c .before .before .before .before .before .before .before .before .before .before .before .before .before .before .if1 .left)) (rw (under-first _ _ _ (c .before .before .before .before .before .before .before .before .before .before .before .before .before .before .before .open-image .ensures .1 (c .before .before .before .before .before .before .before .before .before .before .before .before .before .before .if1 .left) .first-is)) at (c .before .before .fill-verdicts .ensures (c .before .before .before .before .before .before .before .before .before .before .before .before .before .before .before .before .before .before .before .args .replica))))
 
 pub read-image-spec : {M : Type 1} → statement M
 read-image-spec =

@@ -6,7 +6,7 @@ use Rattle.read.proofs.verdict.Statement.{statement}
 use Rattle.read.proofs.verdict.Tie as tie
 
 returns : tie.Need-returns
-returns c = λ i n. verdict-none _ _ _ _ (c .if1 .taken)
+returns c = λ i. verdict-none _ _ _ _ (c .if1 .taken)
 
 entry-state-requires : tie.Need-entry-state-requires
 entry-state-requires c κs = search needs
@@ -15,16 +15,16 @@ faulty-verdict-requires : tie.Need-faulty-verdict-requires
 faulty-verdict-requires c κs = search needs
 
 returns-2 : tie.Need-returns-2
-returns-2 c = λ i n. verdict-by _ _ _ _ _ Faulty (c .before .before .if2 .taken) (c .faulty-verdict .ensures _ (c .before .entry-state .ensures i n))
+returns-2 c = λ i. verdict-by _ _ _ _ _ Faulty (c .before .before .if2 .taken) (c .faulty-verdict .ensures _ (c .before .entry-state .ensures i))
 
 unused-verdict-requires : tie.Need-unused-verdict-requires
 unused-verdict-requires c κs = search needs
 
 returns-3 : tie.Need-returns-3
-returns-3 c = λ i n. verdict-by _ _ _ _ _ Unused (c .before .if3 .taken) (c .unused-verdict .ensures i n)
+returns-3 c = λ i. verdict-by _ _ _ _ _ Unused (c .before .if3 .taken) (c .unused-verdict .ensures i _)
 
 returns-4 : tie.Need-returns-4
-returns-4 c = λ i n. verdict-same _ _ _ _ (c .before .before .if1 .left) (c .before .if2 .left) (c .if3 .left)
+returns-4 c = λ i. verdict-same _ _ _ _ (c .before .before .if1 .left) (c .before .if2 .left) (c .if3 .left)
 
 pub verdict-spec : {M : Type 1} → statement M
 verdict-spec =

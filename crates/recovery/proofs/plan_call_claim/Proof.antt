@@ -5,8 +5,8 @@ use Rattle.recovery.proofs.plan_call_claim.Tie as tie
 
 returns : tie.Need-returns
 returns c = record {
-  result-is = λ n m leader present b bytes rows. plan-result (numbers n m leader present) b bytes rows;
-  bytes-kept = λ n m leader present b bytes rows. plan-kept (numbers n m leader present) b bytes rows;
+  result-is = λ Z leader present b bytes rows. plan-result (numbers Z leader present) b bytes rows;
+  bytes-kept = λ Z leader present b bytes rows. plan-kept (numbers Z leader present) b bytes rows;
 }
 
 pub plan-call-claim-spec : {M : Type 1} → statement M

@@ -25,13 +25,13 @@ narrow n leader s e = go (decLt n leader)
 
 returns : tie.Need-returns
 returns z = record {
-  full = λ n m leader x b w. printed-full n m leader b w x;
-  blank = λ n m leader b w s e. printed-blank n m leader b w (leader-own n leader s e) ∙ sym (printed-full n m leader b w _ (narrow n leader s e));
+  full = λ Z leader x b w. printed-full Z leader b w x;
+  blank = λ Z leader b w s e. printed-blank Z leader b w (leader-own (Z .n) leader s e) ∙ sym (printed-full Z leader b w _ (narrow (Z .n) leader s e));
   only = λ leader c. one-member (pred leader) c ∙ ap (eqb c) (omega arith);
-  no-leader = λ n m leader b w e. printed-blank n m leader b w (leader-none n leader e) ∙ no-leader-refused n m leader b e (omega arith);
-  stray = λ n m leader x b w h s. printed-full n m leader b w x h ∙ stray-refused n m leader x b s (omega arith);
+  no-leader = λ Z leader b w e. printed-blank Z leader b w (leader-none (Z .n) leader e) ∙ no-leader-refused Z leader b e (omega arith);
+  stray = λ Z leader x b w h s. printed-full Z leader b w x h ∙ stray-refused Z leader x b s (omega arith);
   uncut = whole-log;
-  waits = λ n m leader b k s h. alone-byte n m leader b s k h (omega arith);
+  waits = λ Z leader b k s h. alone-byte Z leader b s k h (omega arith);
 }
 
 pub set-claim-spec : {M : Type 1} → statement M

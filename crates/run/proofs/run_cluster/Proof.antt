@@ -25,11 +25,11 @@ counted : {N : Numbers} {b₀ b : List ℕ} {t₀ t : NextStore} {leader budget 
 counted g e = rw e g
 
 abbrev Inv-loop : tie.InvT-loop
-Inv-loop cluster₀ n m leading present budget refusal leader shape survey₀ store₀ made₀ cluster survey store made =
-    Noting (numbers n m leading present) cluster₀ store₀ leader budget made cluster survey store
+Inv-loop cluster₀ shape leading present budget refusal leader survey₀ store₀ made₀ cluster survey store made =
+    Noting (numbers shape leading present) cluster₀ store₀ leader budget made cluster survey store
 
 abbrev μ-loop : tie.MeasureT-loop
-μ-loop cluster₀ n m leading present budget refusal leader shape survey₀ store₀ made₀ cluster survey store made = budget - made
+μ-loop cluster₀ shape leading present budget refusal leader survey₀ store₀ made₀ cluster survey store made = budget - made
 
 open-cluster-requires : tie.Need-open-cluster-requires Inv-loop μ-loop
 open-cluster-requires c κs = search needs
@@ -40,13 +40,13 @@ same-length c = search needs
 returns : tie.Need-returns Inv-loop μ-loop
 returns c =
     let a = c .before .before .before .before .args in
-    let N = numbers (a .n) (a .m) (a .leading) (a .present) in
+    let N = numbers (a .shape) (a .leading) (a .present) in
     let b = a .cluster .now in
     let o = c .before .open-cluster .ensures in
     (refused-run N b refl (sym (o .0), c .if1 .taken) (a .budget), refused-run-bytes N b refl (sym (o .0), c .if1 .taken) (a .budget))
 
-add-t18 : tie.Need-add-t18 Inv-loop μ-loop
-add-t18 c = search needs
+add-t16 : tie.Need-add-t16 Inv-loop μ-loop
+add-t16 c = search needs
 
 same-length-2 : tie.Need-same-length-2 Inv-loop μ-loop
 same-length-2 c = search needs
@@ -54,7 +54,7 @@ same-length-2 c = search needs
 returns-2 : tie.Need-returns-2 Inv-loop μ-loop
 returns-2 c =
     let a = c .before .before .before .before .before .before .before .before .args in
-    let N = numbers (a .n) (a .m) (a .leading) (a .present) in
+    let N = numbers (a .shape) (a .leading) (a .present) in
     let b = a .cluster .now in
     let o = c .before .before .before .before .before .open-cluster .ensures in
     let t : c .before .before .before .before .before .open-cluster .result .refusal ≡ 0 = omega arith in
@@ -66,7 +66,7 @@ returns-2 c =
 first-store-requires : tie.Need-first-store-requires Inv-loop μ-loop
 first-store-requires c κs =
     let a = c .before .before .before .before .before .before .before .before .before .args in
-    let N = numbers (a .n) (a .m) (a .leading) (a .present) in
+    let N = numbers (a .shape) (a .leading) (a .present) in
     let b = a .cluster .now in
     let o = c .before .before .before .before .before .before .open-cluster .ensures in
     let t : c .before .before .before .before .before .before .open-cluster .result .refusal ≡ 0 = omega arith in
@@ -77,7 +77,7 @@ first-store-requires c κs =
 loop-holds : tie.Need-loop-holds Inv-loop μ-loop
 loop-holds c =
     let a = c .before .before .before .before .before .before .before .before .before .before .args in
-    let N = numbers (a .n) (a .m) (a .leading) (a .present) in
+    let N = numbers (a .shape) (a .leading) (a .present) in
     let b = a .cluster .now in
     let o = c .before .before .before .before .before .before .before .open-cluster .ensures in
     let t : c .before .before .before .before .before .before .before .open-cluster .result .refusal ≡ 0 = omega arith in
@@ -93,19 +93,19 @@ is-outstanding-requires c κs = search needs
 same-length-3 : tie.Need-same-length-3 Inv-loop μ-loop
 same-length-3 c =
     let a = c .before .before .before .before .before .before .before .before .before .before .before .before .before .before .args in
-    let N = numbers (a .n) (a .m) (a .leading) (a .present) in
+    let N = numbers (a .shape) (a .leading) (a .present) in
     noting-size N (c .before .before .before .loop .inv)
 
 returns-3 : tie.Need-returns-3 Inv-loop μ-loop
 returns-3 c =
     let a = c .before .before .before .before .before .before .before .before .before .before .before .before .before .before .args in
-    let N = numbers (a .n) (a .m) (a .leading) (a .present) in
+    let N = numbers (a .shape) (a .leading) (a .present) in
     counted-recovered (noting-recovered N (c .before .before .before .loop .inv) (sym (c .before .is-outstanding .ensures) ∙ not-true _ (c .if3 .taken))) (omega arith)
 
 make-store-requires : tie.Need-make-store-requires Inv-loop μ-loop
 make-store-requires c κs =
     let a = c .before .before .before .before .before .before .before .before .before .before .before .before .before .before .before .args in
-    let N = numbers (a .n) (a .m) (a .leading) (a .present) in
+    let N = numbers (a .shape) (a .leading) (a .present) in
     noting-fits N (c .before .before .before .before .loop .inv)
 
 add-made : tie.Need-add-made Inv-loop μ-loop
@@ -114,7 +114,7 @@ add-made c = search needs
 note-store-requires : tie.Need-note-store-requires Inv-loop μ-loop
 note-store-requires c κs =
     let a = c .before .before .before .before .before .before .before .before .before .before .before .before .before .before .before .before .before .before .args in
-    let N = numbers (a .n) (a .m) (a .leading) (a .present) in
+    let N = numbers (a .shape) (a .leading) (a .present) in
     noting-within N (c .before .before .before .before .before .before .before .loop .inv)
 
 made-on-requires : tie.Need-made-on-requires Inv-loop μ-loop
@@ -123,7 +123,7 @@ made-on-requires c κs = search needs
 next-store-requires : tie.Need-next-store-requires Inv-loop μ-loop
 next-store-requires c κs =
     let a = c .before .before .before .before .before .before .before .before .before .before .before .before .before .before .before .before .before .before .before .before .before .args in
-    let N = numbers (a .n) (a .m) (a .leading) (a .present) in
+    let N = numbers (a .shape) (a .leading) (a .present) in
     let g = c .before .before .before .before .before .before .before .before .before .before .loop .inv in
     let t = sym (c .before .before .before .before .before .before .before .before .is-outstanding .ensures) ∙ not-false _ (c .before .before .before .before .before .before .before .if3 .left) in
     let x = c .before .before .before .before .before .make-store .ensures in
@@ -137,7 +137,7 @@ loop-less c = search needs
 loop-again : tie.Need-loop-again Inv-loop μ-loop
 loop-again c =
     let a = c .before .before .before .before .before .before .before .before .before .before .before .before .before .before .before .before .before .before .before .before .before .before .args in
-    let N = numbers (a .n) (a .m) (a .leading) (a .present) in
+    let N = numbers (a .shape) (a .leading) (a .present) in
     let g = c .before .before .before .before .before .before .before .before .before .before .before .loop .inv in
     let t = sym (c .before .before .before .before .before .before .before .before .before .is-outstanding .ensures) ∙ not-false _ (c .before .before .before .before .before .before .before .before .if3 .left) in
     let x = c .before .before .before .before .before .before .make-store .ensures in
@@ -151,14 +151,14 @@ run-answer-requires c κs = search needs
 same-length-4 : tie.Need-same-length-4 Inv-loop μ-loop
 same-length-4 c =
     let a = c .before .before .before .before .before .before .before .before .before .before .before .before .before .args in
-    let N = numbers (a .n) (a .m) (a .leading) (a .present) in
+    let N = numbers (a .shape) (a .leading) (a .present) in
     noting-size N (c .before .before .loop .inv)
 
 returns-4 : tie.Need-returns-4 Inv-loop μ-loop
 returns-4 c =
     let a = c .before .before .before .before .before .before .before .before .before .before .before .before .before .args in
-    let N = numbers (a .n) (a .m) (a .leading) (a .present) in
+    let N = numbers (a .shape) (a .leading) (a .present) in
     noting-ends N (c .before .before .loop .inv) (c .before .loop-test .left) (c .run-answer .ensures)
 
 pub run-cluster-spec : {M : Type 1} → statement M
-run-cluster-spec = tie.close (tie.spec Inv-loop μ-loop open-cluster-requires same-length returns add-t18 same-length-2 returns-2 first-store-requires loop-holds is-outstanding-requires same-length-3 returns-3 make-store-requires add-made note-store-requires made-on-requires next-store-requires loop-less loop-again run-answer-requires same-length-4 returns-4)
+run-cluster-spec = tie.close (tie.spec Inv-loop μ-loop open-cluster-requires same-length returns add-t16 same-length-2 returns-2 first-store-requires loop-holds is-outstanding-requires same-length-3 returns-3 make-store-requires add-made note-store-requires made-on-requires next-store-requires loop-less loop-again run-answer-requires same-length-4 returns-4)

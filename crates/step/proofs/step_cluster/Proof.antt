@@ -23,7 +23,7 @@ enum-known-store c = search needs
 make-store-requires : tie.Need-make-store-requires
 make-store-requires c κs =
     let a = c .before .before .before .before .before .before .before .args in
-    let N = numbers (a .n) (a .m) (a .leading) (a .present) in
+    let N = numbers (a .shape) (a .leading) (a .present) in
     let b = a .cluster .now in
     let q = c .before .before .store .given .1 in
     let i = c .before .before .before .before .view-recovery .ensures in
@@ -33,14 +33,14 @@ make-store-requires c κs =
 step-answer-requires : tie.Need-step-answer-requires
 step-answer-requires c κs =
     let a = c .before .before .before .before .before .before .before .before .before .before .args in
-    let N = numbers (a .n) (a .m) (a .leading) (a .present) in
+    let N = numbers (a .shape) (a .leading) (a .present) in
     let b = a .cluster .now in
     let s = c .before .before .before .before .before .store .given .0 .0 in
     let q = c .before .before .before .before .before .store .given .1 in
     let i = c .before .before .before .before .before .before .before .view-recovery .ensures in
     let e = ready-accepts N b q i in
     let l : length b ≤ 18446744073709551615 = omega arith in
-    (slots-few N b e, fits-more (a .m) (length b) 18446744073709551615 s l (store-fits N b e s (ready-next N b q i)))
+    (slots-few N b e, fits-more (a .shape) (length b) 18446744073709551615 s l (store-fits N b e s (ready-next N b q i)))
 
 same-length : tie.Need-same-length
 same-length c = search needs
@@ -48,7 +48,7 @@ same-length c = search needs
 returns : tie.Need-returns
 returns c =
     let a = c .before .before .before .before .before .before .args in
-    let N = numbers (a .n) (a .m) (a .leading) (a .present) in
+    let N = numbers (a .shape) (a .leading) (a .present) in
     let b = a .cluster .now in
     let q = c .before .refusal .given .1 in
     let i = c .before .before .before .view-recovery .ensures in
@@ -60,7 +60,7 @@ same-length-2 c = search needs
 returns-2 : tie.Need-returns-2
 returns-2 c =
     let a = c .before .before .before .before .before .before .args in
-    let N = numbers (a .n) (a .m) (a .leading) (a .present) in
+    let N = numbers (a .shape) (a .leading) (a .present) in
     let b = a .cluster .now in
     let q = c .before .slot .given .1 in
     let i = c .before .before .before .view-recovery .ensures in
@@ -72,7 +72,7 @@ same-length-3 c = search needs
 returns-3 : tie.Need-returns-3
 returns-3 c =
     let a = c .before .before .before .before .before .before .before .before .before .before .before .args in
-    let N = numbers (a .n) (a .m) (a .leading) (a .present) in
+    let N = numbers (a .shape) (a .leading) (a .present) in
     let b = a .cluster .now in
     let q = c .before .before .before .before .before .before .store .given .1 in
     let i = c .before .before .before .before .before .before .before .before .view-recovery .ensures in

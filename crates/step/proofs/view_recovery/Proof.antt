@@ -14,13 +14,13 @@ open-cluster-requires c κs = search needs
 returns : tie.Need-returns
 returns c = search needs
 
-add-t14 : tie.Need-add-t14
-add-t14 c = search needs
+add-t12 : tie.Need-add-t12
+add-t12 c = search needs
 
 returns-2 : tie.Need-returns-2
 returns-2 c =
     let a = c .before .before .before .before .before .args in
-    let N = numbers (a .n) (a .m) (a .leading) (a .present) in
+    let N = numbers (a .shape) (a .leading) (a .present) in
     let b = a .cluster .now in
     let o = c .before .before .before .open-cluster .ensures in
     let t : c .before .before .before .open-cluster .result .refusal ≡ 0 = omega arith in
@@ -31,7 +31,7 @@ returns-2 c =
 first-store-requires : tie.Need-first-store-requires
 first-store-requires c κs =
     let a = c .before .before .before .before .before .args in
-    let N = numbers (a .n) (a .m) (a .leading) (a .present) in
+    let N = numbers (a .shape) (a .leading) (a .present) in
     let b = a .cluster .now in
     let o = c .before .before .before .open-cluster .ensures in
     let t : c .before .before .before .open-cluster .result .refusal ≡ 0 = omega arith in
@@ -42,7 +42,7 @@ first-store-requires c κs =
 returns-3 : tie.Need-returns-3
 returns-3 c =
     let a = c .before .before .before .before .before .before .args in
-    let N = numbers (a .n) (a .m) (a .leading) (a .present) in
+    let N = numbers (a .shape) (a .leading) (a .present) in
     let b = a .cluster .now in
     let o = c .before .before .before .before .open-cluster .ensures in
     let t : c .before .before .before .before .open-cluster .result .refusal ≡ 0 = omega arith in
@@ -51,4 +51,4 @@ returns-3 c =
     readies N b e (w .survey-is) (w .plan-is) (omega arith) (c .first-store .result) (c .first-store .ensures (named N) (sees N b e (w .survey-is)) (w .plan-is))
 
 pub view-recovery-spec : {M : Type 1} → statement M
-view-recovery-spec = tie.close (tie.spec open-cluster-requires returns add-t14 returns-2 first-store-requires returns-3)
+view-recovery-spec = tie.close (tie.spec open-cluster-requires returns add-t12 returns-2 first-store-requires returns-3)

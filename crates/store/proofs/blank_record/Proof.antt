@@ -11,7 +11,7 @@ record-in-requires c κs = search needs
 put-blank-requires : tie.Need-put-blank-requires
 put-blank-requires c κs =
     let a = c .before .before .before .args in
-    omega (arith, c .before .record-in .ensures, record-room (a .m) (a .c) (a .k) _ (omega arith) (c .before .before .before .pre .2))
+    omega (arith, c .before .record-in .ensures, record-room (a .shape) (a .c) (a .k) _ (omega arith) (c .before .before .before .pre .2))
 
 same-length : tie.Need-same-length
 same-length c = search needs

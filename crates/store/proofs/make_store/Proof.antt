@@ -2,6 +2,7 @@
 use Prim.Native.Nat.{ℕ, _+_}
 use mathlib.Core.Path.{_≡_}
 use Rattle.slices.specs.Parts.{Bytes, part, spliced}
+use Rattle.record.specs.declared.Shape.{Shape}
 use Rattle.record.specs.Layout.{entrySize}
 use Rattle.image.specs.Image.{entryAt}
 use Rattle.image.specs.Cluster.{imageAt}
@@ -17,10 +18,10 @@ use Rattle.store.proofs.make_store.Statement.{statement}
 use Rattle.store.proofs.make_store.Tie as tie
 
 -- Replicas and slot are numbers of their own: another one fails on a fact about numbers.
-entry-at : (m : ℕ) (b : Bytes) {s : NextStore} {c k d : ℕ} {a : Bytes} → s ≡ Entry c k d → (to at from : ℕ) → to ≡ c → at ≡ k → from ≡ d
-    → a ≡ spliced b (imageAt m to + entryAt m at) (part b (imageAt m from + entryAt m at) entrySize)
-    → a ≡ after (storeOf s) b (λ t. afterStoreBytes m t b)
-entry-at m b e to at from i j l h = entry-made m b e to from i l (rw (← j) h)
+entry-at : (Z : Shape) (b : Bytes) {s : NextStore} {c k d : ℕ} {a : Bytes} → s ≡ Entry c k d → (to at from : ℕ) → to ≡ c → at ≡ k → from ≡ d
+    → a ≡ spliced b (imageAt Z to + entryAt Z at) (part b (imageAt Z from + entryAt Z at) entrySize)
+    → a ≡ after (storeOf s) b (λ t. afterStoreBytes Z t b)
+entry-at Z b e to at from i j l h = entry-made Z b e to from i l (rw (← j) h)
 
 enum-told : tie.Need-enum-told
 enum-told c = search needs

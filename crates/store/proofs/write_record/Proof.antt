@@ -1,4 +1,11 @@
 -- `write_record` splices the record in where it stands.
+use Prim.Native.Nat.{ℕ}
+use mathlib.Core.Path.{_≡_}
+use Rattle.slices.specs.Parts.{Bytes}
+use Rattle.record.specs.declared.Shape.{Shape}
+use Rattle.image.specs.Image.{index}
+use Rattle.image.specs.Cluster.{firstAt}
+use Rattle.protocol.proofs.FirstLaws.{begins-at-one}
 use Rattle.recovery.proofs.MadeLaws.{record-placed}
 use Rattle.recovery.proofs.OffsetLaws.{record-room}
 use native.Mathlib.Omega.{arith}
@@ -6,33 +13,37 @@ use borrow.Author.Needs.{needs}
 use Rattle.store.proofs.write_record.Statement.{statement}
 use Rattle.store.proofs.write_record.Tie as tie
 
+-- The first index and the slot are numbers of their own: another one fails on a fact about numbers.
+own-index : (Z : Shape) (b : Bytes) (c : ℕ) {first x k i : ℕ} → i ≡ index first x → x ≡ k → first ≡ 1 → i ≡ index (firstAt Z b c) k
+own-index Z b c h e f = rw (h, e, f, begins-at-one Z b c)
+
 record-in-requires : tie.Need-record-in-requires
 record-in-requires c κs = search needs
 
-add-put-record : tie.Need-add-put-record
-add-put-record c = search needs
-
-cast-put-record : tie.Need-cast-put-record
-cast-put-record c = search needs
+index-of-requires : tie.Need-index-of-requires
+index-of-requires c κs = search needs
 
 put-record-requires : tie.Need-put-record-requires
 put-record-requires c κs =
-    let a = c .before .before .before .args in
-    omega (arith, c .before .record-in .ensures, record-room (a .m) (a .c) (a .k) _ (omega arith) (c .before .before .before .pre .2))
+    let s = c .before .before .before .before in
+    omega (arith, c .before .before .record-in .ensures, record-room (s .args .shape) (s .args .c) (s .args .k) _ (omega arith) (s .pre .2))
 
 same-length : tie.Need-same-length
 same-length c = search needs
 
 returns : tie.Need-returns
-returns c = record-placed _ _ _ (c .before .before .before .before .record-in .ensures) (omega arith) (c .before .before .put-record .ensures)
+returns c =
+    let s = c .before .before .before .before .before .before .before in
+    record-placed _ _ _ (c .before .before .before .before .before .record-in .ensures)
+    (own-index (s .args .shape) (s .args .cluster .now) (s .args .c) (c .before .before .before .index-of .ensures) (omega arith) (omega arith))
+    (c .before .before .put-record .ensures)
 
 pub write-record-spec : {M : Type 1} → statement M
 write-record-spec =
     tie.close
     (tie.spec
     record-in-requires
-    add-put-record
-    cast-put-record
+    index-of-requires
     put-record-requires
     same-length
     returns)

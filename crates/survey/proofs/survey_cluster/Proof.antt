@@ -11,10 +11,11 @@ use Rattle.survey.proofs.survey_cluster.Statement.{statement}
 use Rattle.survey.proofs.survey_cluster.Tie as tie
 
 abbrev Inv-replicas : tie.InvT-replicas
-Inv-replicas cluster n m present readable₀ lengths₀ conditions₀ epochs₀ c₀ readable lengths conditions epochs c = (n ≤ 7) × (c ≤ n) × Partly m (viewsIn (settingOf n m 0 present) cluster) readable lengths conditions epochs c
+Inv-replicas cluster shape present readable₀ lengths₀ conditions₀ epochs₀ c₀ readable lengths conditions epochs c =
+    (shape .n ≤ 7) × (c ≤ shape .n) × Partly (shape .m) (viewsIn (settingOf shape 0 present) cluster) readable lengths conditions epochs c
 
 abbrev μ-replicas : tie.MeasureT-replicas
-μ-replicas cluster n m present readable₀ lengths₀ conditions₀ epochs₀ c₀ readable lengths conditions epochs c = n - c
+μ-replicas cluster shape present readable₀ lengths₀ conditions₀ epochs₀ c₀ readable lengths conditions epochs c = shape .n - c
 
 replicas-holds : tie.Need-replicas-holds Inv-replicas μ-replicas
 replicas-holds c = (size-high _ (c .before .pre .0), search needs, partly-none _ _ _ _ _ refl refl refl)
@@ -29,7 +30,7 @@ replicas-less : tie.Need-replicas-less Inv-replicas μ-replicas
 replicas-less c = search needs
 
 replicas-again : tie.Need-replicas-again Inv-replicas μ-replicas
-replicas-again c = (search needs, search needs, partly-skip _ (c .before .before .before .replicas .inv .2) (absent-off _ _ _ _ _ (sym (c .before .contains .ensures) ∙ not-true _ (c .if1 .taken))))
+replicas-again c = (search needs, search needs, partly-skip _ (c .before .before .before .before .replicas .inv .2) (absent-off _ _ _ _ (sym (c .before .contains .ensures) ∙ not-true _ (c .if2 .taken))))
 
 view-replica-requires : tie.Need-view-replica-requires Inv-replicas μ-replicas
 view-replica-requires c κs = (search needs, search needs, search needs, search needs)
@@ -41,7 +42,7 @@ replicas-less-2 : tie.Need-replicas-less-2 Inv-replicas μ-replicas
 replicas-less-2 c = search needs
 
 replicas-again-2 : tie.Need-replicas-again-2 Inv-replicas μ-replicas
-replicas-again-2 c = (search needs, search needs, partly-skip _ (c .before .before .before .before .before .before .replicas .inv .2) (refused-off _ _ _ _ _ (λ e. omega (arith, c .before .before .view-replica .ensures .0))))
+replicas-again-2 c = (search needs, search needs, partly-skip _ (c .before .before .before .before .before .before .before .replicas .inv .2) (refused-off _ _ _ _ (λ e. omega (arith, c .before .before .view-replica .ensures .0))))
 
 insert-requires : tie.Need-insert-requires Inv-replicas μ-replicas
 insert-requires c κs = search needs
@@ -65,16 +66,16 @@ replicas-again-3 : tie.Need-replicas-again-3 Inv-replicas μ-replicas
 replicas-again-3 c =
     let d = c .before .before .before .before in
     let v = d .before .before .view-replica .ensures in
-    let old = d .before .before .before .before .before .before in (
+    let old = d .before .before .before .before .before .before .before in (
       search needs,
       search needs,
-      seen-more _ _ _ _ _ (old .replicas .inv .2) (omega arith) (slots-high _ (old .before .before .pre .1))
-          (sym (d .before .before .before .before .contains .ensures) ∙ not-false _ (d .before .before .before .if1 .left)) (omega (arith, v .0)) (v .1 (omega arith))
+      seen-more _ _ _ _ (old .replicas .inv .2) (omega arith) (slots-high _ (old .before .before .pre .1))
+          (sym (d .before .before .before .before .contains .ensures) ∙ not-false _ (d .before .before .before .if2 .left)) (omega (arith, v .0)) (v .1 (omega arith))
           (c .copy-slots .ensures .0) (c .copy-slots .ensures .1) (c .before .before .before .insert .ensures),
     )
 
 returns : tie.Need-returns Inv-replicas μ-replicas
-returns c = surveyed-any _ _ _ _ (partly-all _ _ (c .before .replicas .inv .2) (c .before .replicas .inv .1) (c .replicas-test .left))
+returns c = surveyed-any _ _ _ (partly-all _ _ (c .before .before .replicas .inv .2) (c .before .before .replicas .inv .1) (c .if1 .left))
 
 pub survey-cluster-spec : {M : Type 1} → statement M
 survey-cluster-spec =

@@ -3,7 +3,7 @@ use Prim.Native.Nat.{ℕ, _-_, _≤_}
 use mathlib.Core.Path.{_≡_}
 use native.Mathlib.Omega.{arith}
 use lib.ListN.{length}
-use Rattle.image.specs.Image.{decodeImage}
+use Rattle.image.specs.Image.{decodeUnder}
 use Rattle.image.specs.Scan.{Scanned}
 use Rattle.image.proofs.SlotLaws.{scan-start, scan-more, scan-end}
 use borrow.Author.Needs.{needs}
@@ -11,13 +11,13 @@ use Rattle.view.proofs.scan.Statement.{statement}
 use Rattle.view.proofs.scan.Tie as tie
 
 abbrev Inv-loop : tie.InvT-loop
-Inv-loop image m conditions₀ epochs₀ k₀ conditions epochs k = (k ≤ m) × (length conditions ≡ 64) × (length epochs ≡ 64) × ((c n : ℕ) → Scanned k (decodeImage c n m image) conditions epochs)
+Inv-loop image shape first m conditions₀ epochs₀ k₀ conditions epochs k = (k ≤ m) × (length conditions ≡ 64) × (length epochs ≡ 64) × ((c : ℕ) → Scanned k (decodeUnder shape c first image) conditions epochs)
 
 abbrev μ-loop : tie.MeasureT-loop
-μ-loop image m conditions₀ epochs₀ k₀ conditions epochs k = m - k
+μ-loop image shape first m conditions₀ epochs₀ k₀ conditions epochs k = m - k
 
 loop-holds : tie.Need-loop-holds Inv-loop μ-loop
-loop-holds c = (search needs, search needs, search needs, λ c n. scan-start _ _ _)
+loop-holds c = (search needs, search needs, search needs, λ i. scan-start _ _ _)
 
 slot-at-requires : tie.Need-slot-at-requires Inv-loop μ-loop
 slot-at-requires c κs = search needs
@@ -38,10 +38,10 @@ loop-less : tie.Need-loop-less Inv-loop μ-loop
 loop-less c = search needs
 
 loop-again : tie.Need-loop-again Inv-loop μ-loop
-loop-again c = (search needs, search needs, search needs, λ i n. scan-more _ _ _ _ _ _ (omega arith) (omega arith) (c .before .before .loop .inv .3 i n) (c .slot-at .ensures i n))
+loop-again c = (search needs, search needs, search needs, λ i. scan-more _ _ _ _ _ _ (omega arith) (omega arith) (c .before .before .loop .inv .3 i) (c .slot-at .ensures i))
 
 returns : tie.Need-returns Inv-loop μ-loop
-returns c = λ i n. scan-end _ _ _ _ _ (omega arith) (omega arith) (c .before .loop .inv .3 i n)
+returns c = λ i. scan-end _ _ _ _ _ (omega arith) (omega arith) (c .before .loop .inv .3 i)
 
 pub scan-spec : {M : Type 1} → statement M
 scan-spec =

@@ -14,7 +14,7 @@ enum-told : tie.Need-enum-told
 enum-told c = search needs
 
 returns : tie.Need-returns
-returns c = λ i n. slot-blank _ _ (c .enum-told .given .1) (c .before .before .before .record-state .ensures i n)
+returns c = λ i. slot-blank _ _ (c .enum-told .given .1) (c .before .before .before .record-state .ensures i)
 
 entry-state-requires : tie.Need-entry-state-requires
 entry-state-requires c κs = search needs
@@ -23,7 +23,7 @@ bad-slot-requires : tie.Need-bad-slot-requires
 bad-slot-requires c κs = search needs
 
 returns-2 : tie.Need-returns-2
-returns-2 c = λ i n. slot-bad _ _ _ _ (is-bad _ (c .before .before .before .match .keys2) (c .before .before .match2 .keys2)) (c .before .before .before .before .record-state .ensures i n) (λ b. c .bad-slot .ensures b _ (c .before .entry-state .ensures i n))
+returns-2 c = λ i. slot-bad _ _ _ _ (is-bad _ (c .before .before .before .match .keys2) (c .before .before .match2 .keys2)) (c .before .before .before .before .record-state .ensures i) (λ b. c .bad-slot .ensures b _ (c .before .entry-state .ensures i))
 
 entry-state-requires-2 : tie.Need-entry-state-requires-2
 entry-state-requires-2 c κs = search needs
@@ -32,7 +32,7 @@ good-slot-requires : tie.Need-good-slot-requires
 good-slot-requires c κs = search needs
 
 returns-3 : tie.Need-returns-3
-returns-3 c = λ i n. slot-good _ _ _ _ (c .before .before .before .«record» .given .1) (c .before .before .before .before .before .record-state .ensures i n) (c .good-slot .ensures _ (c .before .entry-state2 .ensures i n))
+returns-3 c = λ i. slot-good _ _ _ _ (c .before .before .before .«record» .given .1) (c .before .before .before .before .before .record-state .ensures i) (c .good-slot .ensures _ (c .before .entry-state2 .ensures i))
 
 pub slot-at-spec : {M : Type 1} → statement M
 slot-at-spec =

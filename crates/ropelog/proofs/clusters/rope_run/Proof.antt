@@ -1,7 +1,10 @@
-use Rattle.ropelog.proofs.ClusterCallLaws.{run-answered}
+use Rattle.ropelog.proofs.ClusterCallLaws.{run-at, run-answered}
 use borrow.Author.Needs.{needs}
 use Rattle.ropelog.proofs.clusters.rope_run.Statement.{statement}
 use Rattle.ropelog.proofs.clusters.rope_run.Tie as tie
+
+shape-of-requires : tie.Need-shape-of-requires
+shape-of-requires c κs = search needs
 
 run-cluster-requires : tie.Need-run-cluster-requires
 run-cluster-requires c κs = search needs
@@ -22,30 +25,43 @@ same-length : tie.Need-same-length
 same-length c = search needs
 
 returns : tie.Need-returns
-returns c = run-answered _ _ _ _ _ (c .before .made .given .1) (c .before .before .before .before .before .run-cluster .ensures .0) (c .before .before .before .before .before .run-cluster .ensures .1) _ _ _
+returns c =
+    let d = c .before .before .before .before .before in
+    let e = run-at (d .before .shape-of .ensures) _ _ _ _ (d .run-cluster .ensures) in
+    run-answered _ _ _ _ _ (c .before .made .given .1) (e .0) (e .1) _ _ _
 
 same-length-2 : tie.Need-same-length-2
 same-length-2 c = search needs
 
 returns-2 : tie.Need-returns-2
-returns-2 c = run-answered _ _ _ _ _ (c .before .spent .given .1) (c .before .before .before .before .before .run-cluster .ensures .0) (c .before .before .before .before .before .run-cluster .ensures .1) _ _ _
+returns-2 c =
+    let d = c .before .before .before .before .before in
+    let e = run-at (d .before .shape-of .ensures) _ _ _ _ (d .run-cluster .ensures) in
+    run-answered _ _ _ _ _ (c .before .spent .given .1) (e .0) (e .1) _ _ _
 
 same-length-3 : tie.Need-same-length-3
 same-length-3 c = search needs
 
 returns-3 : tie.Need-returns-3
-returns-3 c = run-answered _ _ _ _ _ (c .before .waiting .given .1) (c .before .before .before .before .before .run-cluster .ensures .0) (c .before .before .before .before .before .run-cluster .ensures .1) _ _ _
+returns-3 c =
+    let d = c .before .before .before .before .before in
+    let e = run-at (d .before .shape-of .ensures) _ _ _ _ (d .run-cluster .ensures) in
+    run-answered _ _ _ _ _ (c .before .waiting .given .1) (e .0) (e .1) _ _ _
 
 same-length-4 : tie.Need-same-length-4
 same-length-4 c = search needs
 
 returns-4 : tie.Need-returns-4
-returns-4 c = run-answered _ _ _ _ _ (c .before .refusal .given .1) (c .before .before .before .before .before .run-cluster .ensures .0) (c .before .before .before .before .before .run-cluster .ensures .1) _ _ _
+returns-4 c =
+    let d = c .before .before .before .before .before in
+    let e = run-at (d .before .shape-of .ensures) _ _ _ _ (d .run-cluster .ensures) in
+    run-answered _ _ _ _ _ (c .before .refusal .given .1) (e .0) (e .1) _ _ _
 
 pub rope-run-spec : {M : Type 1} → statement M
 rope-run-spec =
     tie.close
     (tie.spec
+    shape-of-requires
     run-cluster-requires
     enum-known-made
     enum-known-spent

@@ -1,19 +1,28 @@
-use Rattle.ropelog.proofs.PieceLaws.{header-good, header-other}
+use Rattle.ropelog.proofs.PieceLaws.{header-judged}
 use mathlib.Core.Path.{sym, _∙_}
 use native.Mathlib.Omega.{arith}
-use borrow.Author.Tests.{not-true, not-false}
 use borrow.Author.Needs.{needs}
 use Rattle.ropelog.proofs.pieces.rope_judge_header.Statement.{statement}
 use Rattle.ropelog.proofs.pieces.rope_judge_header.Tie as tie
 
-is-header-requires : tie.Need-is-header-requires
-is-header-requires c κs = search needs
+shape-of-requires : tie.Need-shape-of-requires
+shape-of-requires c κs = search needs
+
+judge-header-requires : tie.Need-judge-header-requires
+judge-header-requires c κs = search needs
+
+enum-told : tie.Need-enum-told
+enum-told c = search needs
+
+enum-told-2 : tie.Need-enum-told-2
+enum-told-2 c = search needs
 
 returns : tie.Need-returns
-returns c = header-other _ _ _ _ (sym (c .before .is-header .ensures) ∙ not-true _ (c .if1 .taken)) _ (omega arith)
+returns c = header-judged _ _ _ (c .before .before .before .shape-of .ensures) (sym (c .enum-told .given .1) ∙ c .before .before .judge-header .ensures) _ (omega arith)
 
 returns-2 : tie.Need-returns-2
-returns-2 c = header-good _ _ _ _ (sym (c .before .is-header .ensures) ∙ not-false _ (c .if1 .left))
+returns-2 c = header-judged _ _ _ (c .before .before .before .shape-of .ensures) (sym (c .enum-told2 .given .1) ∙ c .before .before .judge-header .ensures) _ (omega arith)
 
 pub rope-judge-header-spec : {M : Type 1} → statement M
-rope-judge-header-spec = tie.close (tie.spec is-header-requires returns returns-2)
+rope-judge-header-spec =
+    tie.close (tie.spec shape-of-requires judge-header-requires enum-told enum-told-2 returns returns-2)
