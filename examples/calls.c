@@ -20,6 +20,17 @@ static void check(int holds, int line) {
 
 enum { N = 3, M = 2, REPLICA = 2 };
 
+/* The same cluster in either edition. */
+static const rope_shape shape = {N, M, 1}, shape_2 = {N, M, 2};
+
+static rope_shape shape_of(size_t n, size_t m, size_t edition) {
+    rope_shape made;
+    made.n = n;
+    made.m = m;
+    made.edition = edition;
+    return made;
+}
+
 static const uint8_t *bytes_of(const char *text) {
     return (const uint8_t *)text;
 }
@@ -41,6 +52,11 @@ static void check_version_and_sizes(void) {
     CHECK(ROPE_IMAGE_SIZE(1) == 302 && ROPE_IMAGE_SIZE(ROPE_MAX_SLOTS) == 17564);
     CHECK(ROPE_CLUSTER_SIZE(3, 1) == 906 && ROPE_IMAGE_AT(1, 3) == 604);
     CHECK(ROPE_RECORD_AT(2) == 62 && ROPE_ENTRY_AT(2, 1) == 96 && ROPE_ENTRY_AT(2, 2) + ROPE_ENTRY_SIZE == ROPE_IMAGE_SIZE(2));
+    CHECK(ROPE_IMAGE_SIZE_2(1) == 313 && ROPE_IMAGE_SIZE_2(ROPE_MAX_SLOTS) == 17575);
+    CHECK(ROPE_CLUSTER_SIZE_2(3, 1) == 939 && ROPE_IMAGE_AT_2(1, 3) == 626);
+    CHECK(ROPE_RECORD_AT_2(2) == 73 && ROPE_ENTRY_AT_2(2, 1) == 107);
+    CHECK(ROPE_ENTRY_AT_2(2, 2) + ROPE_ENTRY_SIZE == ROPE_IMAGE_SIZE_2(2));
+    CHECK(sizeof(rope_shape) == 3 * sizeof(size_t));
 }
 
 static void check_columns(void) {
@@ -56,15 +72,33 @@ static void check_columns(void) {
     CHECK(rope_read_column(column, sizeof column, &value) == ROPE_COLUMN_NUMBER && value == 42);
 }
 
-static void check_headers_and_records(void) {
-    uint8_t header[ROPE_HEADER_SIZE], record[ROPE_RECORD_SIZE];
+static void check_headers(void) {
+    const rope_shape one = shape_of(5, 64, 1), two = shape_of(5, 64, 2);
+    uint8_t header[ROPE_HEADER_SIZE], header_2[ROPE_HEADER_SIZE_2];
+    uint32_t first = 77;
+    CHECK(rope_write_header(header, sizeof header, one, 2, 1) == ROPE_DONE);
+    CHECK(memcmp(header, "rope  1  2  5 64", 16) == 0);
+    CHECK(rope_judge_header(header, sizeof header, shape_of(2, 64, 1), 5, &first) == ROPE_HEADER_OTHER);
+    CHECK(rope_judge_header(header, 27, one, 2, &first) == ROPE_HEADER_OTHER);
+    CHECK(rope_judge_header(header, sizeof header, two, 2, &first) == ROPE_HEADER_OTHER && first == 77);
+    CHECK(rope_judge_header(header, sizeof header, one, 2, &first) == ROPE_HEADER_GOOD && first == 1);
+    CHECK(rope_write_header(header_2, sizeof header_2, one, 2, 7) == ROPE_REFUSED_BUFFER_LENGTH);
+    CHECK(rope_write_header(header_2, sizeof header_2, two, 2, 7) == ROPE_DONE);
+    CHECK(memcmp(header_2, "rope  2  2  5 64          7", 27) == 0);
+    CHECK(rope_judge_header(header_2, sizeof header_2, one, 2, &first) == ROPE_HEADER_OTHER && first == 1);
+    CHECK(rope_judge_header(header_2, sizeof header_2, two, 2, &first) == ROPE_HEADER_GOOD && first == 7);
+    CHECK(rope_write_header(header_2, sizeof header_2, two, 2, 4294967232u) == ROPE_DONE);
+    CHECK(rope_judge_header(header_2, sizeof header_2, two, 2, &first) == ROPE_HEADER_GOOD && first == 4294967232u);
+    CHECK(rope_write_header(header_2, sizeof header_2, two, 2, 4294967233u) == ROPE_DONE);
+    CHECK(rope_judge_header(header_2, sizeof header_2, two, 2, &first) == ROPE_HEADER_OTHER && first == 4294967232u);
+    CHECK(rope_write_header(header_2, sizeof header_2, two, 2, 0) == ROPE_DONE);
+    CHECK(rope_judge_header(header_2, sizeof header_2, two, 2, &first) == ROPE_HEADER_OTHER && first == 4294967232u);
+}
+
+static void check_records(void) {
+    uint8_t record[ROPE_RECORD_SIZE];
     uint32_t epoch = 77;
     memset(record, '#', sizeof record);
-    CHECK(rope_write_header(header, sizeof header, 2, 5, 64) == ROPE_DONE);
-    CHECK(memcmp(header, "rope  1  2  5 64", 16) == 0);
-    CHECK(rope_judge_header(header, sizeof header, 2, 5, 64) == ROPE_HEADER_GOOD);
-    CHECK(rope_judge_header(header, sizeof header, 5, 2, 64) == ROPE_HEADER_OTHER);
-    CHECK(rope_judge_header(header, 27, 2, 5, 64) == ROPE_HEADER_OTHER);
     CHECK(rope_write_record(record, 33, 7, 3) == ROPE_REFUSED_BUFFER_LENGTH);
     CHECK(all_are(record, sizeof record, '#'));
     CHECK(rope_judge_record(record, sizeof record, 3, &epoch) == ROPE_RECORD_BAD && epoch == 77);
@@ -95,60 +129,61 @@ static void check_stale(const uint8_t *image) {
     uint8_t other[ROPE_IMAGE_SIZE(M)], verdicts[M] = {77, 77}, has = 77;
     uint8_t *entry = other + ROPE_ENTRY_AT(M, 2);
     uint32_t epochs[M] = {77, 77};
+    uint32_t first = 77;
     size_t length = 77, at = 77, size = 77;
     memcpy(other, image, sizeof other);
     CHECK(rope_write_entry(entry, ROPE_ENTRY_SIZE, 7, 2, bytes_of("old"), 3) == ROPE_DONE);
-    CHECK(rope_read(other, sizeof other, REPLICA, N, M, epochs, M, verdicts, M, &length) == ROPE_DONE && length == 2);
+    CHECK(rope_read(other, sizeof other, shape, REPLICA, epochs, M, verdicts, M, &length, &first) == ROPE_DONE && length == 2);
     CHECK(epochs[1] == 9 && verdicts[0] == ROPE_INTACT && verdicts[1] == ROPE_STALE);
-    CHECK(rope_has_payload(other, sizeof other, REPLICA, N, M, 2, &has) == ROPE_DONE && has == 0);
-    rope_payload(other, sizeof other, REPLICA, N, M, 2, &at, &size);
+    CHECK(rope_has_payload(other, sizeof other, shape, REPLICA, 2, &has) == ROPE_DONE && has == 0);
+    rope_payload(other, sizeof other, shape, REPLICA, 2, &at, &size);
     CHECK(at == 0 && size == 0);
     CHECK(rope_write_entry(entry, ROPE_ENTRY_SIZE, 9, 1, bytes_of("old"), 3) == ROPE_DONE);
-    CHECK(rope_read(other, sizeof other, REPLICA, N, M, epochs, M, verdicts, M, &length) == ROPE_DONE && verdicts[1] == ROPE_AMBIGUOUS);
+    CHECK(rope_read(other, sizeof other, shape, REPLICA, epochs, M, verdicts, M, &length, &first) == ROPE_DONE && verdicts[1] == ROPE_AMBIGUOUS);
     CHECK(rope_write_fresh_entry(entry, ROPE_ENTRY_SIZE) == ROPE_DONE);
-    CHECK(rope_read(other, sizeof other, REPLICA, N, M, epochs, M, verdicts, M, &length) == ROPE_DONE && verdicts[1] == ROPE_AMBIGUOUS);
+    CHECK(rope_read(other, sizeof other, shape, REPLICA, epochs, M, verdicts, M, &length, &first) == ROPE_DONE && verdicts[1] == ROPE_AMBIGUOUS);
 }
 
 static void check_image(void) {
     uint8_t image[ROPE_IMAGE_SIZE(M)], verdicts[M] = {77, 77}, has = 77;
-    uint32_t epochs[M] = {77, 77};
+    uint32_t epochs[M] = {77, 77}, first = 77;
     size_t slot = 77, length = 77, at = 77, size = 77;
     memset(image, '#', sizeof image);
-    CHECK(rope_format(image, sizeof image - 1, REPLICA, N, M) == ROPE_REFUSED_BUFFER_LENGTH);
+    CHECK(rope_format(image, sizeof image - 1, shape, REPLICA, 1) == ROPE_REFUSED_BUFFER_LENGTH);
     CHECK(all_are(image, sizeof image, '#'));
-    CHECK(rope_format(image, sizeof image, REPLICA, N, M) == ROPE_DONE);
-    CHECK(rope_append(image, sizeof image, REPLICA, N, M, 0, bytes_of("wire"), 4, &slot) == ROPE_REFUSED_APPEND_EPOCH && slot == 77);
-    CHECK(rope_append(image, sizeof image, REPLICA, N, M, 7, bytes_of("wire"), 4, &slot) == ROPE_DONE && slot == 1);
-    CHECK(rope_append(image, sizeof image, REPLICA, N, M, 9, bytes_of(""), 0, &slot) == ROPE_DONE && slot == 2);
-    CHECK(rope_read(image, sizeof image, REPLICA, N, M, epochs, M, verdicts, M - 1, &length) == ROPE_REFUSED_LENT_LENGTH);
-    CHECK(length == 77 && epochs[0] == 77 && epochs[1] == 77 && verdicts[0] == 77);
+    CHECK(rope_format(image, sizeof image, shape, REPLICA, 1) == ROPE_DONE);
+    CHECK(rope_append(image, sizeof image, shape, REPLICA, 0, bytes_of("wire"), 4, &slot) == ROPE_REFUSED_APPEND_EPOCH && slot == 77);
+    CHECK(rope_append(image, sizeof image, shape, REPLICA, 7, bytes_of("wire"), 4, &slot) == ROPE_DONE && slot == 1);
+    CHECK(rope_append(image, sizeof image, shape, REPLICA, 9, bytes_of(""), 0, &slot) == ROPE_DONE && slot == 2);
+    CHECK(rope_read(image, sizeof image, shape, REPLICA, epochs, M, verdicts, M - 1, &length, &first) == ROPE_REFUSED_LENT_LENGTH);
+    CHECK(length == 77 && first == 77 && epochs[0] == 77 && epochs[1] == 77 && verdicts[0] == 77);
     image[ROPE_ENTRY_AT(M, 2) + 26] ^= 1;
-    CHECK(rope_read(image, sizeof image, REPLICA, N, M, epochs, M, verdicts, M, &length) == ROPE_DONE && length == 2);
-    CHECK(epochs[0] == 7 && epochs[1] == 9);
+    CHECK(rope_read(image, sizeof image, shape, REPLICA, epochs, M, verdicts, M, &length, &first) == ROPE_DONE && length == 2);
+    CHECK(first == 1 && epochs[0] == 7 && epochs[1] == 9);
     CHECK(verdicts[0] == ROPE_INTACT && verdicts[1] == ROPE_AMBIGUOUS);
     check_stale(image);
-    rope_payload(image, sizeof image, REPLICA, N, M, 2, &at, &size);
+    rope_payload(image, sizeof image, shape, REPLICA, 2, &at, &size);
     CHECK(at == 0 && size == 0);
-    rope_payload(image, sizeof image, REPLICA, N, M, 1, &at, &size);
+    rope_payload(image, sizeof image, shape, REPLICA, 1, &at, &size);
     CHECK(at == ROPE_ENTRY_AT(M, 1) + 26 && size == 4 && memcmp(image + at, "wire", 4) == 0);
-    rope_payload(image, sizeof image, REPLICA + 1, N, M, 1, &at, &size);
+    rope_payload(image, sizeof image, shape, REPLICA + 1, 1, &at, &size);
     CHECK(at == 0 && size == 0);
-    CHECK(rope_has_payload(image, sizeof image, REPLICA, N, M, 1, &has) == ROPE_DONE && has == 1);
-    CHECK(rope_has_payload(image, sizeof image, REPLICA, N, M, 2, &has) == ROPE_DONE && has == 0);
-    CHECK(rope_has_payload(image, sizeof image, REPLICA + 1, N, M, 1, &has) == ROPE_REFUSED_HEADER && has == 0);
+    CHECK(rope_has_payload(image, sizeof image, shape, REPLICA, 1, &has) == ROPE_DONE && has == 1);
+    CHECK(rope_has_payload(image, sizeof image, shape, REPLICA, 2, &has) == ROPE_DONE && has == 0);
+    CHECK(rope_has_payload(image, sizeof image, shape, REPLICA + 1, 1, &has) == ROPE_REFUSED_HEADER && has == 0);
 }
 
 /* Replica 1 uses both slots, its first entry spoilt; replica 2 holds slot 1 whole; replica 3 is fresh. */
 static void make_cluster(uint8_t *cluster) {
     size_t replica, slot = 0;
     for (replica = 1; replica <= N; replica++) {
-        CHECK(rope_format(cluster + ROPE_IMAGE_AT(M, replica), ROPE_IMAGE_SIZE(M), replica, N, M) == ROPE_DONE);
+        CHECK(rope_format(cluster + ROPE_IMAGE_AT(M, replica), ROPE_IMAGE_SIZE(M), shape, replica, 1) == ROPE_DONE);
     }
     for (replica = 1; replica <= 2; replica++) {
         uint8_t *image = cluster + ROPE_IMAGE_AT(M, replica);
-        CHECK(rope_append(image, ROPE_IMAGE_SIZE(M), replica, N, M, 1, bytes_of("one"), 3, &slot) == ROPE_DONE && slot == 1);
+        CHECK(rope_append(image, ROPE_IMAGE_SIZE(M), shape, replica, 1, bytes_of("one"), 3, &slot) == ROPE_DONE && slot == 1);
     }
-    CHECK(rope_append(cluster, ROPE_IMAGE_SIZE(M), 1, N, M, 4, bytes_of("two"), 3, &slot) == ROPE_DONE && slot == 2);
+    CHECK(rope_append(cluster, ROPE_IMAGE_SIZE(M), shape, 1, 4, bytes_of("two"), 3, &slot) == ROPE_DONE && slot == 2);
     cluster[ROPE_ENTRY_AT(M, 1) + 26] ^= 1;
 }
 
@@ -160,17 +195,17 @@ static void check_plan(const uint8_t *cluster, size_t cluster_len) {
     uint8_t plan[M] = {77, 77}, status = 77;
     rope_row rows[N] = {{77, 77, 77}, {77, 77, 77}, {77, 77, 77}};
     size_t number = 77;
-    CHECK(rope_plan(cluster, cluster_len, N, M, 1, 8, plan, M, rows, N, &status, &number) == ROPE_REFUSED_PRESENT);
-    CHECK(rope_plan(cluster, cluster_len, N, M, 1, 6, plan, M, rows, N, &status, &number) == ROPE_REFUSED_LEADER);
-    CHECK(rope_plan(cluster, cluster_len, N, M, 1, 7, plan, M - 1, rows, N, &status, &number) == ROPE_REFUSED_LENT_LENGTH);
-    CHECK(rope_plan(cluster, cluster_len, N, M, 1, 7, plan, M, rows, N - 1, &status, &number) == ROPE_REFUSED_LENT_LENGTH);
+    CHECK(rope_plan(cluster, cluster_len, shape, 1, 8, plan, M, rows, N, &status, &number) == ROPE_REFUSED_PRESENT);
+    CHECK(rope_plan(cluster, cluster_len, shape, 1, 6, plan, M, rows, N, &status, &number) == ROPE_REFUSED_LEADER);
+    CHECK(rope_plan(cluster, cluster_len, shape, 1, 7, plan, M - 1, rows, N, &status, &number) == ROPE_REFUSED_LENT_LENGTH);
+    CHECK(rope_plan(cluster, cluster_len, shape, 1, 7, plan, M, rows, N - 1, &status, &number) == ROPE_REFUSED_LENT_LENGTH);
     CHECK(plan[0] == 77 && plan[1] == 77 && status == 77 && number == 77);
     CHECK(is_row(rows[0], 77, 77, 77) && is_row(rows[1], 77, 77, 77) && is_row(rows[2], 77, 77, 77));
-    CHECK(rope_plan(cluster, cluster_len, N, M, 1, 7, plan, M, rows, N, &status, &number) == ROPE_DONE);
+    CHECK(rope_plan(cluster, cluster_len, shape, 1, 7, plan, M, rows, N, &status, &number) == ROPE_DONE);
     CHECK(plan[0] == ROPE_PLAN_FETCH + 2 && plan[1] == ROPE_PLAN_WHOLE);
     CHECK(is_row(rows[0], 1, 2, 4) && is_row(rows[1], 1, 1, 1) && is_row(rows[2], 1, 0, 0));
     CHECK(status == ROPE_PLAN_READY && number == 2);
-    CHECK(rope_plan(cluster, cluster_len, N, M, 1, 5, plan, M, rows, N, &status, &number) == ROPE_DONE);
+    CHECK(rope_plan(cluster, cluster_len, shape, 1, 5, plan, M, rows, N, &status, &number) == ROPE_DONE);
     CHECK(plan[0] == ROPE_PLAN_WAIT && is_row(rows[1], 0, 0, 0));
     CHECK(status == ROPE_PLAN_WAITING && number == 1);
 }
@@ -181,37 +216,38 @@ static void check_recovery(void) {
     uint64_t stores = 77;
     make_cluster(cluster);
     check_plan(cluster, sizeof cluster);
-    CHECK(rope_step(cluster, sizeof cluster, 2, M, 1, 7, &status, &replica, &slot, &kind) == ROPE_REFUSED_REPLICA_COUNT);
-    CHECK(rope_step(cluster, sizeof cluster, 8, M, 1, 7, &status, &replica, &slot, &kind) == ROPE_REFUSED_REPLICA_COUNT);
+    CHECK(rope_step(cluster, sizeof cluster, shape_of(2, M, 1), 1, 7, &status, &replica, &slot, &kind) == ROPE_REFUSED_REPLICA_COUNT);
+    CHECK(rope_step(cluster, sizeof cluster, shape_of(8, M, 1), 1, 7, &status, &replica, &slot, &kind) == ROPE_REFUSED_REPLICA_COUNT);
     CHECK(status == 77 && replica == 77 && slot == 77 && kind == 77);
-    CHECK(rope_step(cluster, sizeof cluster, N, M, 1, 5, &status, &replica, &slot, &kind) == ROPE_DONE);
+    CHECK(rope_step(cluster, sizeof cluster, shape, 1, 5, &status, &replica, &slot, &kind) == ROPE_DONE);
     CHECK(status == ROPE_WAITING && replica == 77 && slot == 1 && kind == 77);
-    CHECK(rope_run(cluster, sizeof cluster, N, M, 1, 5, 9, &status, &stores, &slot) == ROPE_DONE);
+    CHECK(rope_run(cluster, sizeof cluster, shape, 1, 5, 9, &status, &stores, &slot) == ROPE_DONE);
     CHECK(status == ROPE_WAITING && stores == 0 && slot == 1);
     stores = 77;
-    CHECK(rope_step(cluster, sizeof cluster, N, M, 1, 7, &status, &replica, &slot, &kind) == ROPE_DONE);
+    CHECK(rope_step(cluster, sizeof cluster, shape, 1, 7, &status, &replica, &slot, &kind) == ROPE_DONE);
     CHECK(status == ROPE_OUTSTANDING && replica == 1 && slot == 1 && kind == ROPE_STORE_ENTRY);
     slot = 77;
-    CHECK(rope_run(cluster, sizeof cluster, N, 0, 1, 7, 9, &status, &stores, &slot) == ROPE_REFUSED_SLOT_COUNT && stores == 77);
-    CHECK(rope_run(cluster, sizeof cluster, N, M, 1, 7, 2, &status, &stores, &slot) == ROPE_DONE);
+    CHECK(rope_run(cluster, sizeof cluster, shape_of(N, 0, 1), 1, 7, 9, &status, &stores, &slot) == ROPE_REFUSED_SLOT_COUNT && stores == 77);
+    CHECK(rope_run(cluster, sizeof cluster, shape, 1, 7, 2, &status, &stores, &slot) == ROPE_DONE);
     CHECK(status == ROPE_OUTSTANDING && stores == 2 && slot == 77);
-    CHECK(rope_run(cluster, sizeof cluster, N, M, 1, 7, ROPE_ENOUGH_STORES(N, M), &status, &stores, &slot) == ROPE_DONE);
+    CHECK(rope_run(cluster, sizeof cluster, shape, 1, 7, ROPE_ENOUGH_STORES(N, M), &status, &stores, &slot) == ROPE_DONE);
     CHECK(status == ROPE_RECOVERED && stores == 4 && slot == 77);
-    CHECK(rope_step(cluster, sizeof cluster, N, M, 1, 7, &status, &replica, &slot, &kind) == ROPE_DONE && status == ROPE_RECOVERED);
+    CHECK(rope_step(cluster, sizeof cluster, shape, 1, 7, &status, &replica, &slot, &kind) == ROPE_DONE && status == ROPE_RECOVERED);
 }
 
 /* Replica 1 alone has slot 1, and its entry is spoilt; the first d others are present and do not have it. */
 static void check_dont_haves(size_t n, size_t needed) {
+    const rope_shape of_n = shape_of(n, 1, 1);
     uint8_t cluster[ROPE_CLUSTER_SIZE(ROPE_MAX_REPLICAS, 1)], plan = 77, status = 77;
     rope_row rows[ROPE_MAX_REPLICAS];
     size_t replica, d, slot = 0, number = 77;
     for (replica = 1; replica <= n; replica++) {
-        CHECK(rope_format(cluster + ROPE_IMAGE_AT(1, replica), ROPE_IMAGE_SIZE(1), replica, n, 1) == ROPE_DONE);
+        CHECK(rope_format(cluster + ROPE_IMAGE_AT(1, replica), ROPE_IMAGE_SIZE(1), of_n, replica, 1) == ROPE_DONE);
     }
-    CHECK(rope_append(cluster, ROPE_IMAGE_SIZE(1), 1, n, 1, 1, bytes_of("one"), 3, &slot) == ROPE_DONE);
+    CHECK(rope_append(cluster, ROPE_IMAGE_SIZE(1), of_n, 1, 1, bytes_of("one"), 3, &slot) == ROPE_DONE);
     cluster[ROPE_ENTRY_AT(1, 1) + 26] ^= 1;
     for (d = 0; d < n; d++) {
-        CHECK(rope_plan(cluster, ROPE_CLUSTER_SIZE(n, 1), n, 1, 1, ROPE_ALL(d + 1), &plan, 1, rows, n, &status, &number) == ROPE_DONE);
+        CHECK(rope_plan(cluster, ROPE_CLUSTER_SIZE(n, 1), of_n, 1, ROPE_ALL(d + 1), &plan, 1, rows, n, &status, &number) == ROPE_DONE);
         CHECK(plan == (d < needed ? ROPE_PLAN_WAIT : ROPE_PLAN_TRUNCATE));
         CHECK(status == (d < needed ? ROPE_PLAN_WAITING : ROPE_PLAN_READY) && number == (d < needed ? 1u : 0u));
     }
@@ -226,14 +262,127 @@ static void check_every_n(void) {
     }
 }
 
+/* 20 in each of its three ways, behind 1 and 2 and before 3. The highest first index leaves 4,294,967,295 for the last slot. */
+static void check_first_index(void) {
+    uint8_t image[ROPE_IMAGE_SIZE_2(M)];
+    const size_t size = ROPE_IMAGE_SIZE(M), size_2 = ROPE_IMAGE_SIZE_2(M);
+    memset(image, '#', sizeof image);
+    CHECK(rope_format(image, size_2, shape_2, REPLICA, 0) == ROPE_REFUSED_FIRST_INDEX);
+    CHECK(rope_format(image, size, shape, REPLICA, 0) == ROPE_REFUSED_FIRST_INDEX);
+    CHECK(rope_format(image, size, shape, REPLICA, 2) == ROPE_REFUSED_FIRST_INDEX);
+    CHECK(rope_format(image, size_2, shape_2, REPLICA, 4294967295u) == ROPE_REFUSED_FIRST_INDEX);
+    CHECK(rope_format(image, size_2 - 1, shape_2, REPLICA, 0) == ROPE_REFUSED_FIRST_INDEX);
+    CHECK(rope_format(image, size_2, shape_2, N + 1, 0) == ROPE_REFUSED_REPLICA_COUNT);
+    CHECK(rope_format(image, size_2, shape_of(N, 0, 3), REPLICA, 0) == ROPE_REFUSED_SLOT_COUNT);
+    CHECK(rope_format(image, size_2, shape_of(N, M, 0), REPLICA, 1) == ROPE_REFUSED_REPLICA_COUNT);
+    CHECK(rope_format(image, size_2, shape_of(N, M, 3), REPLICA, 1) == ROPE_REFUSED_REPLICA_COUNT);
+    CHECK(rope_format(image, size, shape_2, REPLICA, 7) == ROPE_REFUSED_BUFFER_LENGTH);
+    CHECK(rope_format(image, size_2, shape, REPLICA, 1) == ROPE_REFUSED_BUFFER_LENGTH);
+    CHECK(all_are(image, sizeof image, '#'));
+    CHECK(rope_format(image, size_2, shape_2, REPLICA, 4294967294u) == ROPE_DONE);
+    CHECK(memcmp(image, "rope  2  2  3  2 4294967294", 27) == 0);
+    CHECK(rope_format(image, size, shape, REPLICA, 1) == ROPE_DONE);
+}
+
+/* A log that begins at index 7: its slots are 1 and 2, its indexes 7 and 8. */
+static void check_image_2(void) {
+    uint8_t image[ROPE_IMAGE_SIZE_2(M)], verdicts[M] = {77, 77}, has = 77;
+    uint32_t epochs[M] = {77, 77}, first = 77, epoch = 77;
+    size_t slot = 77, length = 77, at = 77, size = 77;
+    CHECK(rope_format(image, sizeof image, shape_2, REPLICA, 7) == ROPE_DONE);
+    CHECK(rope_append(image, sizeof image, shape_2, REPLICA, 5, bytes_of("wire"), 4, &slot) == ROPE_DONE && slot == 1);
+    CHECK(rope_append(image, sizeof image, shape_2, REPLICA, 5, bytes_of(""), 0, &slot) == ROPE_DONE && slot == 2);
+    CHECK(rope_append(image, sizeof image, shape_2, REPLICA, 5, bytes_of(""), 0, &slot) == ROPE_REFUSED_APPEND_FULL && slot == 2);
+    CHECK(rope_judge_record(image + ROPE_RECORD_AT_2(2), ROPE_RECORD_SIZE, 8, &epoch) == ROPE_RECORD_GOOD && epoch == 5);
+    CHECK(rope_judge_record(image + ROPE_RECORD_AT_2(2), ROPE_RECORD_SIZE, 2, &epoch) == ROPE_RECORD_BAD);
+    CHECK(rope_judge_entry(image + ROPE_ENTRY_AT_2(M, 1), ROPE_ENTRY_SIZE, 7, &epoch, &size) == ROPE_ENTRY_INTACT && size == 4);
+    CHECK(rope_judge_entry(image + ROPE_ENTRY_AT_2(M, 1), ROPE_ENTRY_SIZE, 1, &epoch, &size) == ROPE_ENTRY_BROKEN);
+    CHECK(rope_read(image, sizeof image, shape, REPLICA, epochs, M, verdicts, M, &length, &first) == ROPE_REFUSED_BUFFER_LENGTH);
+    CHECK(rope_read(image, ROPE_IMAGE_SIZE(M), shape_2, REPLICA, epochs, M, verdicts, M, &length, &first) == ROPE_REFUSED_BUFFER_LENGTH);
+    CHECK(rope_read(image, sizeof image, shape_of(N, M, 3), REPLICA, epochs, M, verdicts, M, &length, &first) == ROPE_REFUSED_REPLICA_COUNT);
+    CHECK(rope_read(image, sizeof image, shape_2, REPLICA, epochs, M - 1, verdicts, M, &length, &first) == ROPE_REFUSED_LENT_LENGTH);
+    CHECK(length == 77 && first == 77 && epochs[0] == 77 && verdicts[0] == 77);
+    CHECK(rope_read(image, sizeof image, shape_2, REPLICA, epochs, M, verdicts, M, &length, &first) == ROPE_DONE && length == 2);
+    CHECK(first == 7 && epochs[0] == 5 && epochs[1] == 5 && verdicts[0] == ROPE_INTACT && verdicts[1] == ROPE_INTACT);
+    rope_payload(image, sizeof image, shape_2, REPLICA, 1, &at, &size);
+    CHECK(at == ROPE_ENTRY_AT_2(M, 1) + 26 && size == 4 && memcmp(image + at, "wire", 4) == 0);
+    CHECK(rope_has_payload(image, sizeof image, shape_2, REPLICA, 2, &has) == ROPE_DONE && has == 1);
+    CHECK(rope_has_payload(image, sizeof image, shape_2, REPLICA, 7, &has) == ROPE_DONE && has == 0);
+    /* Under a first index that 20 refuses, and under another one, under which neither record nor entry is of its slot. */
+    CHECK(rope_write_header(image, ROPE_HEADER_SIZE_2, shape_2, REPLICA, 0) == ROPE_DONE);
+    CHECK(rope_has_payload(image, sizeof image, shape_2, REPLICA, 1, &has) == ROPE_REFUSED_HEADER && has == 0);
+    CHECK(rope_write_header(image, ROPE_HEADER_SIZE_2, shape_2, REPLICA, 1) == ROPE_DONE);
+    CHECK(rope_has_payload(image, sizeof image, shape_2, REPLICA, 1, &has) == ROPE_REFUSED_BOTH_LOST && has == 0);
+}
+
+static uint8_t *image_2(uint8_t *cluster, size_t replica) {
+    return cluster + ROPE_IMAGE_AT_2(M, replica);
+}
+
+/* The cluster of make_cluster, in edition 2 and from index 7 on. */
+static void make_cluster_2(uint8_t *cluster) {
+    size_t replica, slot = 0;
+    for (replica = 1; replica <= N; replica++) {
+        CHECK(rope_format(image_2(cluster, replica), ROPE_IMAGE_SIZE_2(M), shape_2, replica, 7) == ROPE_DONE);
+    }
+    for (replica = 1; replica <= 2; replica++) {
+        CHECK(rope_append(image_2(cluster, replica), ROPE_IMAGE_SIZE_2(M), shape_2, replica, 1, bytes_of("one"), 3, &slot) == ROPE_DONE);
+    }
+    CHECK(rope_append(cluster, ROPE_IMAGE_SIZE_2(M), shape_2, 1, 4, bytes_of("two"), 3, &slot) == ROPE_DONE && slot == 2);
+    cluster[ROPE_ENTRY_AT_2(M, 1) + 26] ^= 1;
+}
+
+/* Replica 3 has a fresh image that begins at 8: with it in the set all three calls are refused, before a wrong table is. */
+static void check_first_differs(const uint8_t *cluster, size_t cluster_len) {
+    uint8_t other[ROPE_CLUSTER_SIZE_2(N, M)], plan[M] = {77, 77}, status = 77, kind = 77;
+    rope_row rows[N] = {{77, 77, 77}, {77, 77, 77}, {77, 77, 77}};
+    size_t number = 77, replica = 77, slot = 77;
+    uint64_t stores = 77;
+    memcpy(other, cluster, cluster_len);
+    CHECK(rope_format(image_2(other, 3), ROPE_IMAGE_SIZE_2(M), shape_2, 3, 8) == ROPE_DONE);
+    CHECK(rope_plan(other, cluster_len, shape_2, 1, 7, plan, M, rows, N - 1, &status, &number) == ROPE_REFUSED_FIRST_DIFFERS);
+    CHECK(rope_plan(other, cluster_len, shape_2, 1, 6, plan, M, rows, N, &status, &number) == ROPE_REFUSED_LEADER);
+    CHECK(rope_step(other, cluster_len, shape_2, 1, 7, &status, &replica, &slot, &kind) == ROPE_REFUSED_FIRST_DIFFERS);
+    CHECK(rope_run(other, cluster_len, shape_2, 3, 7, 9, &status, &stores, &slot) == ROPE_REFUSED_FIRST_DIFFERS);
+    CHECK(plan[0] == 77 && plan[1] == 77 && is_row(rows[0], 77, 77, 77) && number == 77);
+    CHECK(status == 77 && replica == 77 && slot == 77 && kind == 77 && stores == 77);
+    CHECK(rope_plan(other, cluster_len, shape_2, 1, 3, plan, M, rows, N, &status, &number) == ROPE_DONE && status == ROPE_PLAN_READY);
+}
+
+static void check_recovery_2(void) {
+    uint8_t cluster[ROPE_CLUSTER_SIZE_2(N, M)], plan[M] = {77, 77}, status = 77, kind = 77;
+    rope_row rows[N];
+    size_t number = 77, replica = 77, slot = 77, at = 77, size = 77;
+    uint64_t stores = 77;
+    make_cluster_2(cluster);
+    check_first_differs(cluster, sizeof cluster);
+    CHECK(rope_plan(cluster, sizeof cluster, shape_of(N, M, 0), 1, 7, plan, M, rows, N, &status, &number) == ROPE_REFUSED_REPLICA_COUNT);
+    CHECK(rope_plan(cluster, sizeof cluster, shape, 1, 7, plan, M, rows, N, &status, &number) == ROPE_REFUSED_BUFFER_LENGTH);
+    CHECK(rope_plan(cluster, sizeof cluster, shape_2, 1, 7, plan, M, rows, N, &status, &number) == ROPE_DONE);
+    CHECK(plan[0] == ROPE_PLAN_FETCH + 2 && plan[1] == ROPE_PLAN_WHOLE && status == ROPE_PLAN_READY && number == 2);
+    CHECK(is_row(rows[0], 1, 2, 4) && is_row(rows[1], 1, 1, 1) && is_row(rows[2], 1, 0, 0));
+    CHECK(rope_step(cluster, sizeof cluster, shape_2, 1, 7, &status, &replica, &slot, &kind) == ROPE_DONE);
+    CHECK(status == ROPE_OUTSTANDING && replica == 1 && slot == 1 && kind == ROPE_STORE_ENTRY);
+    CHECK(rope_run(cluster, sizeof cluster, shape_2, 1, 7, ROPE_ENOUGH_STORES(N, M), &status, &stores, &slot) == ROPE_DONE);
+    CHECK(status == ROPE_RECOVERED && stores == 6);
+    for (replica = 1; replica <= N; replica++) {
+        rope_payload(image_2(cluster, replica), ROPE_IMAGE_SIZE_2(M), shape_2, replica, 2, &at, &size);
+        CHECK(size == 3 && memcmp(image_2(cluster, replica) + at, "two", 3) == 0);
+    }
+}
+
 int main(void) {
     check_version_and_sizes();
     check_columns();
-    check_headers_and_records();
+    check_headers();
+    check_records();
     check_entries();
     check_image();
     check_recovery();
     check_every_n();
+    check_first_index();
+    check_image_2();
+    check_recovery_2();
     printf("%d checks hold\n", checks);
     return 0;
 }

@@ -7,7 +7,9 @@
 
 #include "ropelog.h"
 
-enum { N = 5, M = 6, LEADER = 1 };
+enum { N = 5, M = 6, EDITION = 1, LEADER = 1 };
+
+static const rope_shape shape = {N, M, EDITION};
 
 static uint8_t cluster[ROPE_CLUSTER_SIZE(N, M)];
 
@@ -47,7 +49,7 @@ static void append_on(uint32_t present, uint32_t epoch, const char *reading) {
     size_t replica, slot = 0;
     for (replica = 1; replica <= N; replica++) {
         if (present & ROPE_BIT(replica)) {
-            must(rope_append(image_of(replica), ROPE_IMAGE_SIZE(M), replica, N, M, epoch, (const uint8_t *)reading, strlen(reading),
+            must(rope_append(image_of(replica), ROPE_IMAGE_SIZE(M), shape, replica, epoch, (const uint8_t *)reading, strlen(reading),
                              &slot));
         }
     }
@@ -60,7 +62,7 @@ static void write_logs(void) {
     size_t replica;
     printf("Five replicas with %d slots each, %d bytes on each card. Replica %d leads.\n", M, (int)ROPE_IMAGE_SIZE(M), LEADER);
     for (replica = 1; replica <= N; replica++) {
-        must(rope_format(image_of(replica), ROPE_IMAGE_SIZE(M), replica, N, M));
+        must(rope_format(image_of(replica), ROPE_IMAGE_SIZE(M), shape, replica, 1));
     }
     append_on(ROPE_ALL(N), 1, "metre 1204, wire broken");
     append_on(ROPE_ALL(N), 1, "metre 1207, no signal");
@@ -87,8 +89,9 @@ static void print_verdicts(void) {
     uint32_t epochs[M] = {0};
     uint8_t verdicts[M] = {0};
     size_t replica, slot, length = 0;
+    uint32_t first = 0;
     for (replica = 1; replica <= N; replica++) {
-        must(rope_read(image_of(replica), ROPE_IMAGE_SIZE(M), replica, N, M, epochs, M, verdicts, M, &length));
+        must(rope_read(image_of(replica), ROPE_IMAGE_SIZE(M), shape, replica, epochs, M, verdicts, M, &length, &first));
         printf("  replica %d, length %d:", (int)replica, (int)length);
         for (slot = 1; slot <= length; slot++) {
             printf("%s %s", slot == 1 ? "" : ",", verdicts_in_words[verdicts[slot - 1]]);
@@ -113,7 +116,7 @@ static void print_plan(uint32_t present) {
     uint8_t plan[M] = {0}, status = 0;
     rope_row rows[N] = {{0, 0, 0}};
     size_t slot, number = 0;
-    must(rope_plan(cluster, sizeof cluster, N, M, LEADER, present, plan, M, rows, N, &status, &number));
+    must(rope_plan(cluster, sizeof cluster, shape, LEADER, present, plan, M, rows, N, &status, &number));
     printf("\nThe plan with ");
     print_set(present);
     printf(" present:\n");
@@ -137,7 +140,7 @@ static void print_plan(uint32_t present) {
 static void step(uint32_t present) {
     uint8_t status = 0, kind = 0;
     size_t replica = 0, slot = 0;
-    must(rope_step(cluster, sizeof cluster, N, M, LEADER, present, &status, &replica, &slot, &kind));
+    must(rope_step(cluster, sizeof cluster, shape, LEADER, present, &status, &replica, &slot, &kind));
     if (status == ROPE_RECOVERED) {
         printf("  a step: recovered, nothing is outstanding\n");
     } else if (status == ROPE_WAITING) {
@@ -152,7 +155,7 @@ static void run(uint32_t present, uint64_t budget) {
     uint8_t status = 0;
     uint64_t stores = 0;
     size_t slot = 0;
-    must(rope_run(cluster, sizeof cluster, N, M, LEADER, present, budget, &status, &stores, &slot));
+    must(rope_run(cluster, sizeof cluster, shape, LEADER, present, budget, &status, &stores, &slot));
     if (status == ROPE_RECOVERED) {
         printf("  a run of at most %d stores: made %d, recovered\n", (int)budget, (int)stores);
     } else if (status == ROPE_WAITING) {
@@ -188,7 +191,7 @@ static void append_again(void) {
     printf("\nThe log was cut, so it goes on in a new epoch.\n");
     append_on(ROPE_ALL(4), 2, "metre 1223, wire broken (measured again)");
     memcpy(before, cluster, sizeof cluster);
-    refusal = rope_append(image_of(LEADER), ROPE_IMAGE_SIZE(M), LEADER, N, M, 1, (const uint8_t *)"late", 4, &slot);
+    refusal = rope_append(image_of(LEADER), ROPE_IMAGE_SIZE(M), shape, LEADER, 1, (const uint8_t *)"late", 4, &slot);
     printf("  an append in epoch 1 is refused by %d, and %s\n", refusal,
            memcmp(before, cluster, sizeof cluster) == 0 ? "no byte changed" : "bytes changed");
 }
@@ -196,7 +199,7 @@ static void append_again(void) {
 /* Whether a replica has a payload at a slot; a refused image has none. */
 static int has_payload(size_t replica, size_t slot) {
     uint8_t has = 0;
-    return rope_has_payload(image_of(replica), ROPE_IMAGE_SIZE(M), replica, N, M, slot, &has) == ROPE_DONE && has == 1;
+    return rope_has_payload(image_of(replica), ROPE_IMAGE_SIZE(M), shape, replica, slot, &has) == ROPE_DONE && has == 1;
 }
 
 /* Prints each payload of the leader, and how many replicas have it too. */
@@ -208,9 +211,9 @@ static void print_log(void) {
         if (!has_payload(LEADER, slot)) {
             continue;
         }
-        rope_payload(image_of(LEADER), ROPE_IMAGE_SIZE(M), LEADER, N, M, slot, &at, &size);
+        rope_payload(image_of(LEADER), ROPE_IMAGE_SIZE(M), shape, LEADER, slot, &at, &size);
         for (replica = 1; replica <= N; replica++) {
-            rope_payload(image_of(replica), ROPE_IMAGE_SIZE(M), replica, N, M, slot, &their_at, &their_size);
+            rope_payload(image_of(replica), ROPE_IMAGE_SIZE(M), shape, replica, slot, &their_at, &their_size);
             if (has_payload(replica, slot) && their_size == size &&
                 memcmp(image_of(replica) + their_at, image_of(LEADER) + at, size) == 0) {
                 holders++;

@@ -5,12 +5,18 @@
  * has record k (its epoch and index) and entry k (its epoch, index and payload). A slot is used if its record is not blank. The log's
  * length is the number of used slots. A cluster's buffer is n images end to end, all with the same m, replica 1 first.
  *
+ * Editions. An image is of edition 1 or 2, and all images of a cluster are of the same. In edition 1 slot k has index k. In edition 2 the
+ * header names the first index, and slot k has index first + k - 1 in its record and its entry: once a checkpoint stands, old slots are
+ * dropped, and a log on a fresh image goes on under its old indexes. Whatever the first index, every call and every answer counts slots
+ * from 1. What a call names of its cluster is one rope_shape: n, m and the edition.
+ *
  * Refusals. A function that can be refused returns 0 (ROPE_DONE) or the number of a refusal (enum rope_refusal). If several refusals
- * apply, the lowest number is returned. A refused call changes nothing: no byte of a lent buffer, no row, no number behind a pointer.
- * Any number and any buffer content may be passed; nothing has to be checked before a call. Four functions return a code of their own,
- * which is no refusal and of which 0 is the good one: rope_read_column (enum rope_column), rope_judge_header (enum rope_header),
- * rope_judge_record (enum rope_record) and rope_judge_entry (enum rope_entry). rope_checksum returns the checksum. rope_payload and
- * rope_write_number return nothing.
+ * apply, the one that is tried first is returned; each function names them in the order in which they are tried, which is by number but
+ * for 20, tried before 3, and 21, tried before 13. A refused call changes nothing: no byte of a lent buffer, no row, no number behind a
+ * pointer. Any number and any buffer content may be passed; nothing has to be checked before a call. Four functions return a code of
+ * their own, which is no refusal and of which 0 is the good one: rope_read_column (enum rope_column), rope_judge_header (enum
+ * rope_header), rope_judge_record (enum rope_record) and rope_judge_entry (enum rope_entry). rope_checksum returns the checksum.
+ * rope_payload and rope_write_number return nothing.
  *
  * Buffers. A buffer crosses as two arguments, its address and then its length, which counts elements (bytes, uint32_t or rows). A
  * number that is handed out crosses as an address. The caller owes five things:
@@ -48,14 +54,15 @@ typedef char rope_needs_64_bit_sizes[sizeof(size_t) == 8 ? 1 : -1];
 /* ---- Version ------------------------------------------------------------------------------------------------------------------ */
 
 /* CHANGELOG.md says what a version promises. */
-#define ROPE_VERSION_MAJOR 5
+#define ROPE_VERSION_MAJOR 6
 #define ROPE_VERSION_MINOR 0
 #define ROPE_VERSION_PATCH 0
-#define ROPE_VERSION "5.0.0"
+#define ROPE_VERSION "6.0.0"
 
 /* ---- Sizes, in bytes ---------------------------------------------------------------------------------------------------------- */
 
-#define ROPE_HEADER_SIZE 28 /* "rope", edition, replica, n, m, checksum, newline */
+#define ROPE_HEADER_SIZE 28 /* edition 1: "rope", edition, replica, n, m, checksum, newline */
+#define ROPE_HEADER_SIZE_2 39 /* edition 2: the same with the first index behind m */
 #define ROPE_RECORD_SIZE 34 /* epoch, index, checksum, newline */
 #define ROPE_ENTRY_SIZE 240 /* epoch, index, length, payload, checksum, newline, spaces to the end */
 #define ROPE_MAX_PAYLOAD 200 /* bytes of payload in one entry, of any values */
@@ -63,15 +70,22 @@ typedef char rope_needs_64_bit_sizes[sizeof(size_t) == 8 ? 1 : -1];
 #define ROPE_MIN_REPLICAS 3
 #define ROPE_MAX_REPLICAS 7
 
-/* An image of m slots has 28 + 274 * m bytes, and a cluster n times as many. */
+/* An image of m slots has 28 + 274 * m bytes in edition 1 and 39 + 274 * m in edition 2, and a cluster n times as many. Of two macros the
+ * one that ends in 2 is for edition 2. */
 #define ROPE_IMAGE_SIZE(m) ((size_t)ROPE_HEADER_SIZE + (size_t)(ROPE_RECORD_SIZE + ROPE_ENTRY_SIZE) * (size_t)(m))
+#define ROPE_IMAGE_SIZE_2(m) ((size_t)ROPE_HEADER_SIZE_2 + (size_t)(ROPE_RECORD_SIZE + ROPE_ENTRY_SIZE) * (size_t)(m))
 #define ROPE_CLUSTER_SIZE(n, m) ((size_t)(n) * ROPE_IMAGE_SIZE(m))
+#define ROPE_CLUSTER_SIZE_2(n, m) ((size_t)(n) * ROPE_IMAGE_SIZE_2(m))
 
 /* Where the image of a replica begins in its cluster, and where the record and the entry of a slot begin in their image. */
 #define ROPE_IMAGE_AT(m, replica) (((size_t)(replica) - 1) * ROPE_IMAGE_SIZE(m))
+#define ROPE_IMAGE_AT_2(m, replica) (((size_t)(replica) - 1) * ROPE_IMAGE_SIZE_2(m))
 #define ROPE_RECORD_AT(slot) ((size_t)ROPE_HEADER_SIZE + (size_t)ROPE_RECORD_SIZE * ((size_t)(slot) - 1))
+#define ROPE_RECORD_AT_2(slot) ((size_t)ROPE_HEADER_SIZE_2 + (size_t)ROPE_RECORD_SIZE * ((size_t)(slot) - 1))
 #define ROPE_ENTRY_AT(m, slot) \
     ((size_t)ROPE_HEADER_SIZE + (size_t)ROPE_RECORD_SIZE * (size_t)(m) + (size_t)ROPE_ENTRY_SIZE * ((size_t)(slot) - 1))
+#define ROPE_ENTRY_AT_2(m, slot) \
+    ((size_t)ROPE_HEADER_SIZE_2 + (size_t)ROPE_RECORD_SIZE * (size_t)(m) + (size_t)ROPE_ENTRY_SIZE * ((size_t)(slot) - 1))
 
 /* In a present set the bit of replica c is worth 2 to the power c - 1. The second macro is the set of all n replicas. */
 #define ROPE_BIT(replica) ((uint32_t)1 << ((replica) - 1))
@@ -80,6 +94,20 @@ typedef char rope_needs_64_bit_sizes[sizeof(size_t) == 8 ? 1 : -1];
 /* No run makes more stores than this, so a run with this budget is never spent. */
 #define ROPE_ENOUGH_STORES(n, m) ((uint64_t)3 * (uint64_t)(n) * (uint64_t)(m))
 
+/* ---- The shape of a cluster --------------------------------------------------------------------------------------------------- */
+
+/* What a call names of its cluster, passed by value: three sizes, in this order, 24 bytes in all. Any numbers may be passed; they are
+ * judged by 1 and 2. */
+typedef struct rope_shape {
+    size_t n;       /* how many replicas there are: 3 to 7 */
+    size_t m;       /* how many slots each of their images has: 1 to 64 */
+    size_t edition; /* 1 or 2 */
+} rope_shape;
+
+typedef char rope_shape_has_24_bytes[sizeof(rope_shape) == 24 ? 1 : -1];
+typedef char rope_shape_m_at_8[offsetof(rope_shape, m) == 8 ? 1 : -1];
+typedef char rope_shape_edition_at_16[offsetof(rope_shape, edition) == 16 ? 1 : -1];
+
 /* ---- The numbers -------------------------------------------------------------------------------------------------------------- */
 
 /* Why a call is refused. 4 to 7 are found in one image: the calls about a cluster treat a present replica whose image has such a
@@ -87,9 +115,11 @@ typedef char rope_needs_64_bit_sizes[sizeof(size_t) == 8 ? 1 : -1];
 enum rope_refusal {
     ROPE_DONE = 0,                      /* not refused */
     ROPE_REFUSED_SLOT_COUNT = 1,        /* m is not 1 to 64 */
-    ROPE_REFUSED_REPLICA_COUNT = 2,     /* n is not 3 to 7, or the replica of an image is not 1 to n */
-    ROPE_REFUSED_BUFFER_LENGTH = 3,     /* the buffer of an image, a cluster or a piece has the wrong length */
-    ROPE_REFUSED_HEADER = 4,            /* the header is not the one that is written for this replica, n and m */
+    ROPE_REFUSED_REPLICA_COUNT = 2,     /* n is not 3 to 7, the replica of an image is not 1 to n, or the edition is not 1 or 2 */
+    ROPE_REFUSED_BUFFER_LENGTH = 3,     /* the buffer of an image, a cluster or a piece has the wrong length, as has an image of the other
+                                           edition */
+    ROPE_REFUSED_HEADER = 4,            /* the header is not one that is written for this replica and shape; in edition 2 also if its
+                                           first index is one that 20 refuses */
     ROPE_REFUSED_USED_AFTER_BLANK = 5,  /* a used slot stands after a blank record */
     ROPE_REFUSED_BOTH_LOST = 6,         /* a bad record stands beside an entry that is not intact */
     ROPE_REFUSED_EPOCH_FALLS = 7,       /* a used slot's epoch is below an earlier slot's */
@@ -99,7 +129,10 @@ enum rope_refusal {
     ROPE_REFUSED_PRESENT = 11,          /* the present set has a bit for no replica */
     ROPE_REFUSED_LEADER = 12,           /* the leader is not 1 to n, is not in the present set, or has an image that is refused */
     ROPE_REFUSED_LENT_LENGTH = 13,      /* a lent result buffer or table has the wrong length */
-    ROPE_REFUSED_COMMAND_LINE = 14      /* the printing program alone: its first line is not well formed */
+    ROPE_REFUSED_COMMAND_LINE = 14,     /* the printing program alone: its first line is not well formed */
+    ROPE_REFUSED_FIRST_INDEX = 20,      /* format: the first index is 0, is another than 1 in edition 1, or is so high that the last slot's
+                                           index would pass 4,294,967,295; tried before 3 */
+    ROPE_REFUSED_FIRST_DIFFERS = 21     /* another readable present image has another first index than the leader's; tried before 13 */
 };
 
 /* What rope_read says of a slot. 3, 4 and 6 together are called faulty: the slot is used and has no payload. */
@@ -159,51 +192,54 @@ typedef char rope_row_last_epoch_at_8[offsetof(rope_row, last_epoch) == 8 ? 1 : 
 
 /* ---- One image ---------------------------------------------------------------------------------------------------------------- */
 
-/* Writes a fresh image over the whole buffer: a header, blank records, entries of spaces. Refusals 1 to 3. */
+/* Writes a fresh image over the whole buffer: a header, blank records, entries of spaces. Slot 1 will have the index first, which is 1
+ * in edition 1. Refusals 1, 2, 20 and 3. */
 ROPE_MUST_USE
-uint8_t rope_format(uint8_t *image, size_t image_len, size_t replica, size_t n, size_t m);
+uint8_t rope_format(uint8_t *image, size_t image_len, rope_shape shape, size_t replica, uint32_t first);
 
 /* Writes the entry and then the record of the first unused slot, and hands out that slot. Epochs are 1 to 4,294,967,295 and never
  * fall. After a cut, and for every new leader, take an epoch that was never used before. Refusals 1 to 10. */
 ROPE_MUST_USE
-uint8_t rope_append(uint8_t *image, size_t image_len, size_t replica, size_t n, size_t m, uint32_t epoch, const uint8_t *payload,
+uint8_t rope_append(uint8_t *image, size_t image_len, rope_shape shape, size_t replica, uint32_t epoch, const uint8_t *payload,
                     size_t payload_len, size_t *slot);
 
-/* Fills the epoch (0 if the slot is unused) and the verdict (enum rope_verdict) of each slot, and hands out the log's length. Both
- * buffers have m elements, else 13, which is tried after all else. A slot's epoch is its record's if that is good, else its entry's.
- * Refusals 1 to 7 and 13. */
+/* Fills the epoch (0 if the slot is unused) and the verdict (enum rope_verdict) of each slot, and hands out the log's length and its
+ * first index, which is 1 in edition 1. Both buffers have m elements, else 13, which is tried after all else. A slot's epoch is its
+ * record's if that is good, else its entry's. Refusals 1 to 7 and 13. */
 ROPE_MUST_USE
-uint8_t rope_read(const uint8_t *image, size_t image_len, size_t replica, size_t n, size_t m, uint32_t *epochs, size_t epochs_len,
-                  uint8_t *verdicts, size_t verdicts_len, size_t *length);
+uint8_t rope_read(const uint8_t *image, size_t image_len, rope_shape shape, size_t replica, uint32_t *epochs, size_t epochs_len,
+                  uint8_t *verdicts, size_t verdicts_len, size_t *length, uint32_t *first);
 
 /* Hands out 1 if the slot has a payload (verdict 1 or 2), else 0; a slot that is not 1 to m has none, and an empty payload is one.
  * Refusals 1 to 7. */
 ROPE_MUST_USE
-uint8_t rope_has_payload(const uint8_t *image, size_t image_len, size_t replica, size_t n, size_t m, size_t slot, uint8_t *has);
+uint8_t rope_has_payload(const uint8_t *image, size_t image_len, rope_shape shape, size_t replica, size_t slot, uint8_t *has);
 
 /* Hands out the slot's payload as a part of the image: the offset where it begins, and how many bytes it has. If the slot has none, or
  * the image is refused, it is the empty part: offset 0, size 0. Returns nothing; whether there is a payload, and the refusals, are
  * rope_has_payload's to say. */
-void rope_payload(const uint8_t *image, size_t image_len, size_t replica, size_t n, size_t m, size_t slot, size_t *at, size_t *size);
+void rope_payload(const uint8_t *image, size_t image_len, rope_shape shape, size_t replica, size_t slot, size_t *at, size_t *size);
 
 /* ---- A cluster ---------------------------------------------------------------------------------------------------------------- */
 
 /* Plans what is to be done about the leader's log, and writes nothing to the cluster. Fills m plan bytes (enum rope_plan_byte), one for
  * each slot, and n rows, one for each replica; hands out a status (enum rope_plan_status), and as number the final length if ready, or
  * the lowest waiting slot. A plan of other than m bytes or a table of other than n rows is 13, tried after all else.
- * Refusals 1 to 3 and 11 to 13; for 2 only n counts. */
+ * Refusals 1 to 3, 11, 12, 21 and 13; for 2 only n and the edition count. No store writes a header, so 21 neither comes nor goes in a
+ * recovery. */
 ROPE_MUST_USE
-uint8_t rope_plan(const uint8_t *cluster, size_t cluster_len, size_t n, size_t m, size_t leader, uint32_t present, uint8_t *plan,
+uint8_t rope_plan(const uint8_t *cluster, size_t cluster_len, rope_shape shape, size_t leader, uint32_t present, uint8_t *plan,
                   size_t plan_len, rope_row *rows, size_t rows_len, uint8_t *status, size_t *number);
 
 /* Works out the plan afresh and makes the first store still outstanding. Hands out a status (enum rope_status): ROPE_RECOVERED; or
  * ROPE_WAITING with the lowest waiting slot; or ROPE_OUTSTANDING with the replica, the slot and the kind (enum rope_store) of the
  * store it made. A number that goes with another status stays as it was. The store must be on the card of that replica before the
- * next step: 240 bytes at ROPE_ENTRY_AT or 34 at ROPE_RECORD_AT of the card's own image, the 34 as one write, whole or not at all.
- * Records 15, 30, 45 and 60 straddle a boundary of 512 bytes if the image begins at one: a card that writes single sectors whole may
- * tear them, and README.md, rule 5, says what to do. Refusals 1 to 3, 11 and 12; for 2 only n counts. */
+ * next step: 240 bytes at ROPE_ENTRY_AT or 34 at ROPE_RECORD_AT of the card's own image (in edition 2 ROPE_ENTRY_AT_2 and
+ * ROPE_RECORD_AT_2), the 34 as one write, whole or not at all. Records 15, 30, 45 and 60 straddle a boundary of 512 bytes if the image
+ * begins at one, in edition 2 records 14, 29, 45 and 60: a card that writes single sectors whole may tear them, and README.md, rule 5,
+ * says what to do. Refusals 1 to 3, 11, 12 and 21; for 2 only n and the edition count. */
 ROPE_MUST_USE
-uint8_t rope_step(uint8_t *cluster, size_t cluster_len, size_t n, size_t m, size_t leader, uint32_t present, uint8_t *status,
+uint8_t rope_step(uint8_t *cluster, size_t cluster_len, rope_shape shape, size_t leader, uint32_t present, uint8_t *status,
                   size_t *replica, size_t *slot, uint8_t *kind);
 
 /* Makes steps while the budget of stores lasts. Hands out a status (enum rope_status) and the number of stores made, 0 if it waits;
@@ -211,7 +247,7 @@ uint8_t rope_step(uint8_t *cluster, size_t cluster_len, size_t n, size_t m, size
  * holds before the call returns is not promised, so it must not be the storage itself. Cards are written store by store, by
  * rope_step. Refusals as for rope_step. */
 ROPE_MUST_USE
-uint8_t rope_run(uint8_t *cluster, size_t cluster_len, size_t n, size_t m, size_t leader, uint32_t present, uint64_t budget,
+uint8_t rope_run(uint8_t *cluster, size_t cluster_len, rope_shape shape, size_t leader, uint32_t present, uint64_t budget,
                  uint8_t *status, uint64_t *stores, size_t *slot);
 
 /* ---- The pieces of an image --------------------------------------------------------------------------------------------------- */
@@ -235,10 +271,11 @@ enum rope_column {
 ROPE_MUST_USE
 uint8_t rope_read_column(const uint8_t *column, size_t column_len, uint64_t *value);
 
-/* Write a header, a record, a blank record, an entry, an entry of spaces: each over a buffer of exactly that size, else 3. The entry's
- * payload has at most 200 bytes, else 9. The numbers are written as they are, whatever they are. */
+/* Write a header, a record, a blank record, an entry, an entry of spaces: each over a buffer of exactly that size, else 3. A header has the
+ * first index in edition 2 alone. The entry's payload has at most 200 bytes, else 9. The numbers are written as they are, whatever they
+ * are. */
 ROPE_MUST_USE
-uint8_t rope_write_header(uint8_t *header, size_t header_len, size_t replica, size_t n, size_t m);
+uint8_t rope_write_header(uint8_t *header, size_t header_len, rope_shape shape, size_t replica, uint32_t first);
 ROPE_MUST_USE
 uint8_t rope_write_record(uint8_t *record, size_t record_len, uint32_t epoch, uint32_t index);
 ROPE_MUST_USE
@@ -251,13 +288,13 @@ uint8_t rope_write_fresh_entry(uint8_t *entry, size_t entry_len);
 
 /* What rope_judge_header returns. */
 enum rope_header {
-    ROPE_HEADER_GOOD = 0, /* what is written for this replica, n and m */
-    ROPE_HEADER_OTHER = 1 /* other bytes, or another length */
+    ROPE_HEADER_GOOD = 0, /* what is written for this replica and shape, and the first index that is handed out: 1 in edition 1 */
+    ROPE_HEADER_OTHER = 1 /* other bytes, another length, or a first index that 20 refuses */
 };
 
-/* Judges the header of a replica, n and m. Returns enum rope_header. */
+/* Judges the header of a replica and a shape. Returns enum rope_header. */
 ROPE_MUST_USE
-uint8_t rope_judge_header(const uint8_t *header, size_t header_len, size_t replica, size_t n, size_t m);
+uint8_t rope_judge_header(const uint8_t *header, size_t header_len, rope_shape shape, size_t replica, uint32_t *first);
 
 /* What rope_judge_record returns. */
 enum rope_record {

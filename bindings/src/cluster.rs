@@ -229,6 +229,8 @@ pub enum RunAnswer {
 /// - [`Refusal::Present`]: the present set has a replica that this geometry does not have.
 /// - [`Refusal::Leader`]: the leader is not one of this geometry's, is not present, or its own image
 ///   is refused; [`read`](crate::read) says why.
+/// - [`Refusal::FirstDiffers`]: another replica that is present and readable has a log that begins at
+///   another index than the leader's.
 pub fn plan(
     cluster: &[u8],
     geometry: Geometry,
@@ -249,8 +251,7 @@ pub fn plan(
         exported::rope_plan(
             cluster.as_ptr(),
             cluster.len(),
-            n,
-            m,
+            geometry.shape(),
             leader.0,
             present.word(),
             bytes[..m].as_mut_ptr(),
@@ -287,22 +288,21 @@ fn row_of(row: RawRow) -> ReplicaRow {
 ///
 /// # Errors
 ///
-/// [`Refusal::BufferLength`], [`Refusal::Present`] and [`Refusal::Leader`], each as for [`plan`].
+/// [`Refusal::BufferLength`], [`Refusal::Present`], [`Refusal::Leader`] and [`Refusal::FirstDiffers`],
+/// each as for [`plan`].
 pub fn step(
     cluster: &mut [u8],
     geometry: Geometry,
     leader: Replica,
     present: ReplicaSet,
 ) -> Result<StepAnswer, Refusal> {
-    let (n, m) = (geometry.replica_count(), geometry.slot_count());
     let (mut status, mut replica, mut slot, mut kind) = (0, 0, 0, 0);
     // SAFETY: the slice and the numbers are lent for the call, and none overlaps another.
     let refusal = unsafe {
         exported::rope_step(
             cluster.as_mut_ptr(),
             cluster.len(),
-            n,
-            m,
+            geometry.shape(),
             leader.0,
             present.word(),
             &mut status,
@@ -331,7 +331,8 @@ pub fn step(
 ///
 /// # Errors
 ///
-/// [`Refusal::BufferLength`], [`Refusal::Present`] and [`Refusal::Leader`], each as for [`plan`].
+/// [`Refusal::BufferLength`], [`Refusal::Present`], [`Refusal::Leader`] and [`Refusal::FirstDiffers`],
+/// each as for [`plan`].
 pub fn run(
     cluster: &mut [u8],
     geometry: Geometry,
@@ -339,15 +340,13 @@ pub fn run(
     present: ReplicaSet,
     budget: u64,
 ) -> Result<RunAnswer, Refusal> {
-    let (n, m) = (geometry.replica_count(), geometry.slot_count());
     let (mut status, mut stores, mut slot) = (0, 0, 0);
     // SAFETY: the slice and the numbers are lent for the call, and none overlaps another.
     let refusal = unsafe {
         exported::rope_run(
             cluster.as_mut_ptr(),
             cluster.len(),
-            n,
-            m,
+            geometry.shape(),
             leader.0,
             present.word(),
             budget,

@@ -1,6 +1,23 @@
 //! The functions of the archive as `include/ropelog.h` declares them. A slice is passed as its
 //! address and then its length.
 
+use std::mem::size_of;
+
+/// What a call names of its cluster, whatever the numbers are. It is passed by value.
+#[repr(C)]
+#[derive(Clone, Copy, Debug, PartialEq, Eq, Hash)]
+pub struct Shape {
+    /// How many replicas there are.
+    pub n: usize,
+    /// How many slots each of their images has.
+    pub m: usize,
+    /// The edition of the images.
+    pub edition: usize,
+}
+
+// Three words, as the archive takes them.
+const _: () = assert!(size_of::<Shape>() == 3 * size_of::<usize>());
+
 /// A row of the planner's table, as the archive lays it out.
 #[repr(C)]
 #[derive(Clone, Copy, Debug, Default, PartialEq, Eq)]
@@ -11,13 +28,12 @@ pub struct RawRow {
 }
 
 extern "C" {
-    pub fn rope_format(image: *mut u8, len: usize, replica: usize, n: usize, m: usize) -> u8;
+    pub fn rope_format(image: *mut u8, len: usize, shape: Shape, replica: usize, first: u32) -> u8;
     pub fn rope_append(
         image: *mut u8,
         len: usize,
+        shape: Shape,
         replica: usize,
-        n: usize,
-        m: usize,
         epoch: u32,
         payload: *const u8,
         payload_len: usize,
@@ -26,30 +42,28 @@ extern "C" {
     pub fn rope_read(
         image: *const u8,
         len: usize,
+        shape: Shape,
         replica: usize,
-        n: usize,
-        m: usize,
         epochs: *mut u32,
         epochs_len: usize,
         verdicts: *mut u8,
         verdicts_len: usize,
         length: *mut usize,
+        first: *mut u32,
     ) -> u8;
     pub fn rope_has_payload(
         image: *const u8,
         len: usize,
+        shape: Shape,
         replica: usize,
-        n: usize,
-        m: usize,
         slot: usize,
         has: *mut u8,
     ) -> u8;
     pub fn rope_payload(
         image: *const u8,
         len: usize,
+        shape: Shape,
         replica: usize,
-        n: usize,
-        m: usize,
         slot: usize,
         at: *mut usize,
         size: *mut usize,
@@ -58,8 +72,7 @@ extern "C" {
     pub fn rope_plan(
         cluster: *const u8,
         len: usize,
-        n: usize,
-        m: usize,
+        shape: Shape,
         leader: usize,
         present: u32,
         plan: *mut u8,
@@ -72,8 +85,7 @@ extern "C" {
     pub fn rope_step(
         cluster: *mut u8,
         len: usize,
-        n: usize,
-        m: usize,
+        shape: Shape,
         leader: usize,
         present: u32,
         status: *mut u8,
@@ -84,8 +96,7 @@ extern "C" {
     pub fn rope_run(
         cluster: *mut u8,
         len: usize,
-        n: usize,
-        m: usize,
+        shape: Shape,
         leader: usize,
         present: u32,
         budget: u64,
@@ -97,8 +108,13 @@ extern "C" {
     pub fn rope_checksum(bytes: *const u8, len: usize) -> u32;
     pub fn rope_write_number(column: *mut u8, len: usize, number: u64);
     pub fn rope_read_column(column: *const u8, len: usize, value: *mut u64) -> u8;
-    pub fn rope_write_header(header: *mut u8, len: usize, replica: usize, n: usize, m: usize)
-        -> u8;
+    pub fn rope_write_header(
+        header: *mut u8,
+        len: usize,
+        shape: Shape,
+        replica: usize,
+        first: u32,
+    ) -> u8;
     pub fn rope_write_record(record: *mut u8, len: usize, epoch: u32, index: u32) -> u8;
     pub fn rope_write_blank_record(record: *mut u8, len: usize) -> u8;
     pub fn rope_write_entry(
@@ -113,9 +129,9 @@ extern "C" {
     pub fn rope_judge_header(
         header: *const u8,
         len: usize,
+        shape: Shape,
         replica: usize,
-        n: usize,
-        m: usize,
+        first: *mut u32,
     ) -> u8;
     pub fn rope_judge_record(record: *const u8, len: usize, index: u32, epoch: *mut u32) -> u8;
     pub fn rope_judge_entry(

@@ -1,30 +1,63 @@
-//! The numbers that shape a cluster: its replicas and slots, sets of replicas, epochs.
+//! The numbers that shape a cluster: its replicas, slots and edition; sets of replicas, epochs.
 
 use std::fmt;
 use std::num::NonZeroU32;
 use std::ops::Range;
 
-use crate::exported::rope_format;
+use crate::exported::{rope_format, Shape};
 use crate::refusal::{accepted, Refusal};
-use crate::{ENTRY_LEN, HEADER_LEN, RECORD_LEN};
+use crate::{ENTRY_LEN, HEADER_LEN, HEADER_LEN_2, RECORD_LEN};
 
-/// How many replicas a cluster has, and how many slots each of their images has.
+/// How the images of a cluster are laid out.
+#[derive(Clone, Copy, Debug, PartialEq, Eq, PartialOrd, Ord, Hash)]
+#[non_exhaustive]
+pub enum Edition {
+    /// 1: slot k has index k.
+    One = 1,
+    /// 2: the header names the first index, and slot k has index first + k − 1.
+    Two = 2,
+}
+
+impl Edition {
+    /// The number that stands in a header.
+    pub fn number(self) -> usize {
+        self as usize
+    }
+}
+
+/// How many replicas a cluster has, how many slots each of their images has, and the edition of them
+/// all.
 #[derive(Clone, Copy, Debug, PartialEq, Eq, Hash)]
 pub struct Geometry {
     n: usize,
     m: usize,
+    edition: Edition,
 }
 
 impl Geometry {
-    /// n replicas with m slots each.
+    /// n replicas with m slots each, in edition 1: their logs begin at index 1.
     ///
     /// # Errors
     ///
     /// - [`Refusal::SlotCount`]: m is not 1 to 64.
     /// - [`Refusal::ReplicaCount`]: n is not 3 to 7.
     pub fn new(n: usize, m: usize) -> Result<Geometry, Refusal> {
-        judge(1, n, m)?;
-        Ok(Geometry { n, m })
+        Geometry::judged(n, m, Edition::One)
+    }
+
+    /// The same in edition 2: their logs begin at any index, which the headers name.
+    ///
+    /// # Errors
+    ///
+    /// As for [`Geometry::new`].
+    pub fn edition_2(n: usize, m: usize) -> Result<Geometry, Refusal> {
+        Geometry::judged(n, m, Edition::Two)
+    }
+
+    fn judged(n: usize, m: usize, edition: Edition) -> Result<Geometry, Refusal> {
+        let geometry = Geometry { n, m, edition };
+        judge(geometry.shape(), 1)?;
+        Ok(geometry)
     }
 
     /// n, the number of replicas.
@@ -37,9 +70,31 @@ impl Geometry {
         self.m
     }
 
+    /// The edition of the images.
+    pub fn edition(self) -> Edition {
+        self.edition
+    }
+
+    /// The numbers as [`pieces`](crate::pieces) take them.
+    pub fn shape(self) -> Shape {
+        Shape {
+            n: self.n,
+            m: self.m,
+            edition: self.edition.number(),
+        }
+    }
+
+    /// The bytes of a header.
+    pub fn header_len(self) -> usize {
+        match self.edition {
+            Edition::One => HEADER_LEN,
+            Edition::Two => HEADER_LEN_2,
+        }
+    }
+
     /// The bytes of one image.
     pub fn image_len(self) -> usize {
-        HEADER_LEN + (RECORD_LEN + ENTRY_LEN) * self.m
+        self.header_len() + (RECORD_LEN + ENTRY_LEN) * self.m
     }
 
     /// The bytes of a cluster: all its images end to end.
@@ -53,7 +108,7 @@ impl Geometry {
     ///
     /// [`Refusal::ReplicaCount`]: the number is not 1 to n.
     pub fn replica(self, number: usize) -> Result<Replica, Refusal> {
-        judge(number, self.n, self.m)?;
+        judge(self.shape(), number)?;
         Ok(Replica(number))
     }
 
@@ -85,7 +140,7 @@ impl Geometry {
     /// If the slot is not 1 to m.
     pub fn record_range(self, slot: usize) -> Range<usize> {
         self.expect_slot(slot);
-        let start = HEADER_LEN + RECORD_LEN * (slot - 1);
+        let start = self.header_len() + RECORD_LEN * (slot - 1);
         start..start + RECORD_LEN
     }
 
@@ -96,7 +151,7 @@ impl Geometry {
     /// If the slot is not 1 to m.
     pub fn entry_range(self, slot: usize) -> Range<usize> {
         self.expect_slot(slot);
-        let start = HEADER_LEN + RECORD_LEN * self.m + ENTRY_LEN * (slot - 1);
+        let start = self.header_len() + RECORD_LEN * self.m + ENTRY_LEN * (slot - 1);
         start..start + ENTRY_LEN
     }
 
@@ -110,11 +165,12 @@ impl Geometry {
     }
 }
 
-/// The proved functions judge the numbers: an image of no bytes is refused by 3 if these are good.
-fn judge(replica: usize, n: usize, m: usize) -> Result<(), Refusal> {
+/// The proved functions judge the numbers: an image of no bytes is refused by 3 if these are good, since
+/// every log may begin at index 1.
+fn judge(shape: Shape, replica: usize) -> Result<(), Refusal> {
     let image: &mut [u8] = &mut [];
     // SAFETY: the slice is lent for the call.
-    let number = unsafe { rope_format(image.as_mut_ptr(), image.len(), replica, n, m) };
+    let number = unsafe { rope_format(image.as_mut_ptr(), image.len(), shape, replica, 1) };
     match accepted("rope_format", number) {
         Err(Refusal::BufferLength) => Ok(()),
         answer => answer,

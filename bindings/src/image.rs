@@ -85,6 +85,7 @@ pub struct SlotState {
 #[derive(Clone, Copy, Debug, PartialEq, Eq)]
 pub struct Log {
     length: usize,
+    first: u32,
     slots: usize,
     states: [SlotState; MAX_SLOTS],
 }
@@ -93,6 +94,17 @@ impl Log {
     /// The log's length: how many slots are used.
     pub fn length(&self) -> usize {
         self.length
+    }
+
+    /// The index of slot 1; in edition 1 it is 1.
+    pub fn first(&self) -> u32 {
+        self.first
+    }
+
+    /// The index of a slot, counted from 1; none if there is no such slot.
+    pub fn index(&self, slot: usize) -> Option<u32> {
+        let behind = slot.checked_sub(1).filter(|&at| at < self.slots)?;
+        Some(self.first + behind as u32)
     }
 
     /// The state of every slot, used or not; slot k stands at k − 1.
@@ -106,16 +118,34 @@ impl Log {
     }
 }
 
-/// Writes a fresh image over the whole buffer: a header, blank records, entries of spaces.
+/// Writes a fresh image over the whole buffer: a header, blank records, entries of spaces. In either
+/// edition its log begins at index 1.
 ///
 /// # Errors
 ///
 /// - [`Refusal::ReplicaCount`]: the replica is not one of this geometry's.
 /// - [`Refusal::BufferLength`]: the image is not [`Geometry::image_len`] bytes long.
 pub fn format(image: &mut [u8], geometry: Geometry, replica: Replica) -> Result<(), Refusal> {
-    let (n, m) = (geometry.replica_count(), geometry.slot_count());
+    format_from(image, geometry, replica, 1)
+}
+
+/// The same for a log whose slot 1 has the index `first`, as one that goes on behind a checkpoint.
+///
+/// # Errors
+///
+/// - [`Refusal::ReplicaCount`]: the replica is not one of this geometry's.
+/// - [`Refusal::FirstIndex`]: the first index is 0, is another than 1 in edition 1, or is so high that
+///   the last slot's index would pass 4,294,967,295.
+/// - [`Refusal::BufferLength`]: the image is not [`Geometry::image_len`] bytes long.
+pub fn format_from(
+    image: &mut [u8],
+    geometry: Geometry,
+    replica: Replica,
+    first: u32,
+) -> Result<(), Refusal> {
+    let (pointer, len) = (image.as_mut_ptr(), image.len());
     // SAFETY: the slice is lent for the call.
-    let number = unsafe { exported::rope_format(image.as_mut_ptr(), image.len(), replica.0, n, m) };
+    let number = unsafe { exported::rope_format(pointer, len, geometry.shape(), replica.0, first) };
     accepted("rope_format", number)
 }
 
@@ -135,16 +165,14 @@ pub fn append(
     epoch: Epoch,
     payload: &[u8],
 ) -> Result<usize, Refusal> {
-    let (n, m) = (geometry.replica_count(), geometry.slot_count());
     let mut slot = 0;
     // SAFETY: the slices and the number are lent for the call, and none overlaps another.
     let number = unsafe {
         exported::rope_append(
             image.as_mut_ptr(),
             image.len(),
+            geometry.shape(),
             replica.0,
-            n,
-            m,
             epoch.number(),
             payload.as_ptr(),
             payload.len(),
@@ -155,34 +183,35 @@ pub fn append(
     Ok(slot)
 }
 
-/// Reads an image: the epoch and the verdict of each slot.
+/// Reads an image: the epoch and the verdict of each slot, and the index that the log begins at.
 ///
 /// # Errors
 ///
 /// - [`Refusal::ReplicaCount`]: the replica is not one of this geometry's.
 /// - [`Refusal::BufferLength`]: the image is not [`Geometry::image_len`] bytes long.
-/// - [`Refusal::Header`]: the header is not the one that is written for this replica and geometry.
+/// - [`Refusal::Header`]: the header is not one that is written for this replica and geometry, or its
+///   first index is one that [`Refusal::FirstIndex`] refuses.
 /// - [`Refusal::UsedAfterBlank`]: a used slot stands after a blank record.
 /// - [`Refusal::BothLost`]: a bad record stands beside an entry that is not intact.
 /// - [`Refusal::EpochFalls`]: a used slot's epoch is below an earlier slot's.
 pub fn read(image: &[u8], geometry: Geometry, replica: Replica) -> Result<Log, Refusal> {
-    let (n, m) = (geometry.replica_count(), geometry.slot_count());
+    let m = geometry.slot_count();
     let mut epochs = [0; MAX_SLOTS];
     let mut verdicts = [0; MAX_SLOTS];
-    let mut length = 0;
-    // SAFETY: the slices and the number are lent for the call, and none overlaps another.
+    let (mut length, mut first) = (0, 0);
+    // SAFETY: the slices and the numbers are lent for the call, and none overlaps another.
     let number = unsafe {
         exported::rope_read(
             image.as_ptr(),
             image.len(),
+            geometry.shape(),
             replica.0,
-            n,
-            m,
             epochs[..m].as_mut_ptr(),
             m,
             verdicts[..m].as_mut_ptr(),
             m,
             &mut length,
+            &mut first,
         )
     };
     accepted("rope_read", number)?;
@@ -192,6 +221,7 @@ pub fn read(image: &[u8], geometry: Geometry, replica: Replica) -> Result<Log, R
     });
     Ok(Log {
         length,
+        first,
         slots: m,
         states,
     })
@@ -209,11 +239,11 @@ pub fn has_payload(
     replica: Replica,
     slot: usize,
 ) -> Result<bool, Refusal> {
-    let (n, m) = (geometry.replica_count(), geometry.slot_count());
+    let (pointer, len) = (image.as_ptr(), image.len());
     let mut has = 0;
     // SAFETY: the slice and the number are lent for the call, and do not overlap.
     let number = unsafe {
-        exported::rope_has_payload(image.as_ptr(), image.len(), replica.0, n, m, slot, &mut has)
+        exported::rope_has_payload(pointer, len, geometry.shape(), replica.0, slot, &mut has)
     };
     accepted("rope_has_payload", number)?;
     Ok(has == 1)
@@ -222,16 +252,14 @@ pub fn has_payload(
 /// The payload of a slot, counted from 1, as a part of the image: the empty part if the slot is not
 /// whole or the image is refused. [`has_payload`] tells these and an empty payload apart.
 pub fn payload(image: &[u8], geometry: Geometry, replica: Replica, slot: usize) -> &[u8] {
-    let (n, m) = (geometry.replica_count(), geometry.slot_count());
     let (mut at, mut size) = (0, 0);
     // SAFETY: the slice and the numbers are lent for the call, and none overlaps another.
     unsafe {
         exported::rope_payload(
             image.as_ptr(),
             image.len(),
+            geometry.shape(),
             replica.0,
-            n,
-            m,
             slot,
             &mut at,
             &mut size,

@@ -5,8 +5,13 @@
 //! record says that its slot is used, and in which *epoch*; an entry holds the *payload*. Slots and
 //! replicas are numbered from 1.
 //!
-//! [`format()`], [`append`], [`read`], [`payload`] and [`has_payload`] are about one image; [`plan`],
-//! [`step`] and [`run`] about a cluster, which is one buffer with all images end to end.
+//! In *edition* 1 slot k has index k in its record and its entry. In edition 2 the header names the
+//! *first index*, and slot k has index first + k − 1: a log whose old slots were dropped once a checkpoint
+//! stood. [`Geometry::new`] is for edition 1 and [`Geometry::edition_2`] for the other. Every call counts
+//! slots from 1 in both.
+//!
+//! [`format()`], [`format_from`], [`append`], [`read`], [`payload`] and [`has_payload`] are about one
+//! image; [`plan`], [`step`] and [`run`] about a cluster, which is one buffer with all images end to end.
 //!
 //! A call that is refused ([`Refusal`]) has changed nothing. The functions behind the calls are
 //! proved for every buffer and every number, so nothing has to be checked before a call.
@@ -26,6 +31,21 @@
 //! assert_eq!(plan.answer(), PlanAnswer::Ready { length: 1 });
 //! let image = &cluster[geometry.image_range(leader)];
 //! assert_eq!(payload(image, geometry, leader, 1), b"metre 1204, wire broken");
+//! # Ok::<(), ropelog::Refusal>(())
+//! ```
+//!
+//! A log that goes on at index 1205:
+//!
+//! ```
+//! use ropelog::{append, format_from, read, Epoch, Geometry};
+//!
+//! let geometry = Geometry::edition_2(3, 2)?;
+//! let replica = geometry.replica(1)?;
+//! let mut image = vec![0; geometry.image_len()];
+//! format_from(&mut image, geometry, replica, 1205)?;
+//! let slot = append(&mut image, geometry, replica, Epoch::FIRST, b"metre 1207, no signal")?;
+//! let log = read(&image, geometry, replica)?;
+//! assert_eq!((slot, log.first(), log.index(slot)), (1, 1205, Some(1205)));
 //! # Ok::<(), ropelog::Refusal>(())
 //! ```
 //!
@@ -50,12 +70,14 @@ pub use cluster::{
     plan, run, step, Plan, PlanAction, PlanAnswer, ReplicaRow, RunAnswer, StepAnswer, Store,
     StoreKind,
 };
-pub use geometry::{Epoch, Geometry, Replica, ReplicaSet};
-pub use image::{append, format, has_payload, payload, read, Log, SlotState, Verdict};
+pub use geometry::{Edition, Epoch, Geometry, Replica, ReplicaSet};
+pub use image::{append, format, format_from, has_payload, payload, read, Log, SlotState, Verdict};
 pub use refusal::Refusal;
 
-/// Bytes of a header.
+/// Bytes of a header in edition 1.
 pub const HEADER_LEN: usize = 28;
+/// Bytes of a header in edition 2, which has the first index.
+pub const HEADER_LEN_2: usize = 39;
 /// Bytes of a record.
 pub const RECORD_LEN: usize = 34;
 /// Bytes of an entry.

@@ -7,7 +7,9 @@ use std::ops::Range;
 
 use crate::exported::{self, no_such};
 use crate::refusal::{accepted, Refusal};
-use crate::{ENTRY_LEN, HEADER_LEN, RECORD_LEN};
+use crate::{ENTRY_LEN, RECORD_LEN};
+
+pub use crate::exported::Shape;
 
 /// What stands in a column.
 #[derive(Clone, Copy, Debug, PartialEq, Eq, Hash)]
@@ -18,6 +20,18 @@ pub enum Column {
     Blank,
     /// Anything else.
     Malformed,
+}
+
+/// What a header is.
+#[derive(Clone, Copy, Debug, PartialEq, Eq, Hash)]
+pub enum Header {
+    /// The one that is written for the replica, the shape and this first index.
+    Good {
+        /// The index of slot 1; in edition 1 it is 1.
+        first: u32,
+    },
+    /// Other bytes, another length, or a first index that [`Refusal::FirstIndex`] refuses.
+    Other,
 }
 
 /// What a record is.
@@ -83,12 +97,26 @@ pub fn read_column(column: &[u8]) -> Result<Column, Refusal> {
     }
 }
 
-/// Writes the header of a replica of n, with m slots.
-pub fn write_header(header: &mut [u8; HEADER_LEN], replica: usize, n: usize, m: usize) {
-    // SAFETY: the array is lent for the call.
-    let number =
-        unsafe { exported::rope_write_header(header.as_mut_ptr(), header.len(), replica, n, m) };
-    sized("rope_write_header", number);
+/// Writes the header of a replica of a cluster of this shape. Only in edition 2 the first index stands
+/// in it.
+///
+/// # Errors
+///
+/// [`Refusal::BufferLength`]: the header has not the bytes of its edition, [`HEADER_LEN`] or
+/// [`HEADER_LEN_2`]. Nothing is written then.
+///
+/// [`HEADER_LEN`]: crate::HEADER_LEN
+/// [`HEADER_LEN_2`]: crate::HEADER_LEN_2
+pub fn write_header(
+    header: &mut [u8],
+    shape: Shape,
+    replica: usize,
+    first: u32,
+) -> Result<(), Refusal> {
+    let (pointer, len) = (header.as_mut_ptr(), header.len());
+    // SAFETY: the slice is lent for the call.
+    let number = unsafe { exported::rope_write_header(pointer, len, shape, replica, first) };
+    accepted("rope_write_header", number)
 }
 
 /// Writes the record of an epoch and an index.
@@ -138,12 +166,14 @@ pub fn write_fresh_entry(entry: &mut [u8; ENTRY_LEN]) {
     sized("rope_write_fresh_entry", number);
 }
 
-/// Whether these are the bytes of the header of this replica of n, with m slots.
-pub fn is_header(header: &[u8], replica: usize, n: usize, m: usize) -> bool {
-    // SAFETY: the slice is lent for the call.
-    match unsafe { exported::rope_judge_header(header.as_ptr(), header.len(), replica, n, m) } {
-        0 => true,
-        1 => false,
+/// Judges the header of a replica of a cluster of this shape.
+pub fn judge_header(header: &[u8], shape: Shape, replica: usize) -> Header {
+    let (pointer, len) = (header.as_ptr(), header.len());
+    let mut first = 0;
+    // SAFETY: the slice and the number are lent for the call, and do not overlap.
+    match unsafe { exported::rope_judge_header(pointer, len, shape, replica, &mut first) } {
+        0 => Header::Good { first },
+        1 => Header::Other,
         number => no_such("rope_judge_header", number),
     }
 }

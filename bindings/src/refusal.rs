@@ -5,18 +5,22 @@ use std::fmt;
 
 use crate::exported::no_such;
 
-/// Why a call is refused, in the order in which the lowest number wins. A refused call has changed
-/// no byte of what it was lent.
+/// Why a call is refused, by number. Of several that apply a call answers the one that is tried first:
+/// the lowest, but 20 comes before 3, and 21 before 13. A refused call has changed no byte of what it was
+/// lent.
 #[derive(Clone, Copy, Debug, PartialEq, Eq, PartialOrd, Ord, Hash)]
 #[non_exhaustive]
 pub enum Refusal {
     /// 1: m, the number of slots, is not 1 to 64.
     SlotCount = 1,
-    /// 2: n, the number of replicas, is not 3 to 7, or the replica of an image is not 1 to n.
+    /// 2: n, the number of replicas, is not 3 to 7, the replica of an image is not 1 to n, or the edition
+    /// is not 1 or 2.
     ReplicaCount = 2,
-    /// 3: the buffer of an image, a cluster or a piece has the wrong length.
+    /// 3: the buffer of an image, a cluster or a piece has the wrong length, as has an image of the other
+    /// edition.
     BufferLength = 3,
-    /// 4: the header is not the one that is written for this replica, n and m.
+    /// 4: the header is not one that is written for this replica, n, m and edition, or its first index is
+    /// one that 20 refuses.
     Header = 4,
     /// 5: a used slot stands after a blank record.
     UsedAfterBlank = 5,
@@ -40,11 +44,16 @@ pub enum Refusal {
     /// 14: the first line of the printing program's input is not well formed. No call of this crate
     /// has it.
     CommandLine = 14,
+    /// 20: the first index of a fresh image is 0, is another than 1 in edition 1, or is so high that the
+    /// last slot's index would pass 4,294,967,295.
+    FirstIndex = 20,
+    /// 21: the leader's log and that of another readable present replica begin at different indexes.
+    FirstDiffers = 21,
 }
 
 impl Refusal {
     /// Every refusal, by number.
-    pub const ALL: [Refusal; 14] = [
+    pub const ALL: [Refusal; 16] = [
         Refusal::SlotCount,
         Refusal::ReplicaCount,
         Refusal::BufferLength,
@@ -59,24 +68,29 @@ impl Refusal {
         Refusal::Leader,
         Refusal::LentLength,
         Refusal::CommandLine,
+        Refusal::FirstIndex,
+        Refusal::FirstDiffers,
     ];
 
-    /// The number, 1 to 14, by which C and the printing program name it.
+    /// The number, 1 to 14, 20 or 21, by which C and the printing program name it.
     pub fn number(self) -> u8 {
         self as u8
     }
 
     /// The refusal with this number, if there is one.
     pub fn from_number(number: u8) -> Option<Refusal> {
-        let at = usize::from(number).checked_sub(1)?;
-        Refusal::ALL.get(at).copied()
+        Refusal::ALL
+            .into_iter()
+            .find(|refusal| refusal.number() == number)
     }
 
     /// What is wrong, in a few words.
     fn meaning(self) -> &'static str {
         match self {
             Refusal::SlotCount => "the number of slots is not 1 to 64",
-            Refusal::ReplicaCount => "there are not 3 to 7 replicas, or there is no such replica",
+            Refusal::ReplicaCount => {
+                "there are not 3 to 7 replicas, or there is no such replica or edition"
+            }
             Refusal::BufferLength => "a buffer has the wrong length",
             Refusal::Header => "the header is not this replica's",
             Refusal::UsedAfterBlank => "a used slot stands after a blank record",
@@ -89,6 +103,8 @@ impl Refusal {
             Refusal::Leader => "the leader is not in the cluster, not present, or not readable",
             Refusal::LentLength => "a lent result buffer has the wrong length",
             Refusal::CommandLine => "the first line of the input is not well formed",
+            Refusal::FirstIndex => "a log cannot begin at this index",
+            Refusal::FirstDiffers => "the logs begin at different indexes",
         }
     }
 }

@@ -274,6 +274,68 @@ fn away_and_unreadable_replicas_keep_their_bytes() {
     }
 }
 
+/// Steps until none makes a store, and the stores.
+fn all_stores(cluster: &mut Cluster) -> Vec<Store> {
+    let all = cluster.geometry.all_present();
+    let mut stores = Vec::new();
+    while let StepAnswer::Stored(store) = stepped(cluster, all) {
+        stores.push(store);
+    }
+    stores
+}
+
+/// The same cluster in edition 1 and, under several first indexes, in edition 2: one plan, the same
+/// stores, the same payloads.
+#[test]
+fn a_first_index_changes_no_plan() {
+    let damaged = |mut cluster: Cluster| {
+        cluster.append(&[1, 2, 3, 4], 1, b"one");
+        cluster.append(&[1, 2, 3, 4], 1, b"two");
+        cluster.append(&[1], 2, b"tail");
+        cluster.spoil_entry(1, 1);
+        cluster.spoil_record(1, 2);
+        cluster.spoil_entry(1, 3);
+        cluster
+    };
+    let mut one = damaged(Cluster::fresh(5, 4));
+    let all = one.geometry.all_present();
+    let plan = planned(&one, all);
+    let stores = all_stores(&mut one);
+    assert_eq!(stores.len(), 7);
+    for first in [1, 2, 1205, u32::MAX - 3] {
+        let mut two = damaged(Cluster::fresh_from(5, 4, first));
+        let found = planned(&two, all);
+        assert_eq!(found.actions(), plan.actions());
+        assert_eq!((found.answer(), found.rows()), (plan.answer(), plan.rows()));
+        assert_eq!(all_stores(&mut two), stores);
+        for replica in two.geometry.replicas() {
+            let image = two.image(replica.number());
+            assert_eq!(read(image, two.geometry, replica).unwrap().first(), first);
+            assert_eq!(payload(image, two.geometry, replica, 2), b"two");
+        }
+    }
+}
+
+/// 21 as long as one that is present and readable begins elsewhere; behind 12.
+#[test]
+fn refused_first_indexes() {
+    let mut cluster = Cluster::fresh_from(5, 2, 7);
+    cluster.append(&[1, 2], 1, b"one");
+    cluster.format_from(4, 8);
+    let (geometry, leader) = (cluster.geometry, cluster.replica(1));
+    let (fourth, all) = (cluster.replica(4), geometry.all_present());
+    assert_refused(&cluster.bytes, geometry, leader, all, Refusal::FirstDiffers);
+    assert_refused(&cluster.bytes, geometry, fourth, all, Refusal::FirstDiffers);
+    let without = all.without(leader);
+    assert_refused(&cluster.bytes, geometry, leader, without, Refusal::Leader);
+    let answer = planned(&cluster, all.without(fourth)).answer();
+    assert_eq!(answer, PlanAnswer::Ready { length: 1 });
+    cluster.spoil_header(4);
+    assert_eq!(planned(&cluster, all).answer(), answer);
+    cluster.spoil_header(1);
+    assert_refused(&cluster.bytes, geometry, leader, all, Refusal::Leader);
+}
+
 #[test]
 fn refused_buffers() {
     let cluster = five();
@@ -284,8 +346,10 @@ fn refused_buffers() {
     for bytes in [&[][..], &cluster.bytes[1..], &longer] {
         assert_refused(bytes, geometry, leader, all, Refusal::BufferLength);
     }
-    let other = Geometry::new(5, 3).unwrap();
-    assert_refused(&cluster.bytes, other, leader, all, Refusal::BufferLength);
+    for other in [Geometry::new(5, 3), Geometry::edition_2(5, 4)] {
+        let other = other.unwrap();
+        assert_refused(&cluster.bytes, other, leader, all, Refusal::BufferLength);
+    }
 }
 
 #[test]

@@ -3,8 +3,10 @@
 mod common;
 
 use common::{epoch, Cluster};
+use ropelog::pieces::Header;
 use ropelog::{
-    append, format, has_payload, payload, pieces, read, Epoch, Geometry, Refusal, Replica, Verdict,
+    append, format, format_from, has_payload, payload, pieces, read, Epoch, Geometry, Refusal,
+    Replica, Verdict,
 };
 
 /// Every call about an image is refused so, and no byte changes. Formatting looks at the numbers
@@ -37,7 +39,74 @@ fn a_fresh_image() {
     assert_eq!(log.slot(1).unwrap().epoch, None);
     assert_eq!(log.slot(1).unwrap().verdict, Verdict::Unused);
     assert_eq!((log.slot(0), log.slot(3)), (None, None));
-    assert!(pieces::is_header(&cluster.image(2)[..28], 2, 3, 2));
+    assert_eq!(log.first(), 1);
+    let header = pieces::judge_header(&cluster.image(2)[..28], cluster.geometry.shape(), 2);
+    assert_eq!(header, Header::Good { first: 1 });
+}
+
+#[test]
+fn a_log_that_begins_at_7() {
+    let mut cluster = Cluster::fresh_from(3, 2, 7);
+    let (geometry, replica) = (cluster.geometry, cluster.replica(2));
+    assert_eq!(&cluster.image(2)[..27], b"rope  2  2  3  2          7");
+    assert_eq!(cluster.append(&[2], 4, b"seven"), 1);
+    assert_eq!(cluster.append(&[2], 5, b"eight"), 2);
+    let log = read(cluster.image(2), geometry, replica).unwrap();
+    assert_eq!((log.length(), log.first()), (2, 7));
+    let indexes = [0, 1, 2, 3, usize::MAX].map(|slot| log.index(slot));
+    assert_eq!(indexes, [None, Some(7), Some(8), None, None]);
+    let states = log.states().iter();
+    let expected = [(Some(epoch(4)), 1), (Some(epoch(5)), 1)];
+    assert!(states
+        .map(|state| (state.epoch, state.verdict.number()))
+        .eq(expected));
+    assert_eq!(payload(cluster.image(2), geometry, replica, 2), b"eight");
+    // No slot has the number of its index.
+    for slot in [7, 8] {
+        let has = has_payload(cluster.image(2), geometry, replica, slot);
+        assert_eq!(has, Ok(false));
+    }
+    for (slot, index) in [(1, 7), (2, 8)] {
+        let record = &cluster.image(2)[geometry.record_range(slot)];
+        let record = pieces::judge_record(record.try_into().unwrap(), index);
+        let in_epoch = 3 + slot as u32;
+        assert_eq!(record, pieces::Record::Good { epoch: in_epoch });
+    }
+}
+
+/// Neither edition's image has the other's length.
+#[test]
+fn images_of_the_other_edition() {
+    for (mine, other) in [
+        (Cluster::fresh(3, 2), Cluster::fresh_from(3, 2, 1)),
+        (Cluster::fresh_from(3, 2, 1), Cluster::fresh(3, 2)),
+    ] {
+        assert_refused(
+            other.image(1),
+            mine.geometry,
+            mine.replica(1),
+            Refusal::BufferLength,
+        );
+    }
+}
+
+/// A header with such a first index is refused though its checksum is right, and a record or entry of
+/// another first index is none of its slot's.
+#[test]
+fn headers_of_another_first_index() {
+    let mut cluster = Cluster::fresh_from(3, 2, 7);
+    cluster.append(&[1], 4, b"seven");
+    let (geometry, replica) = (cluster.geometry, cluster.replica(1));
+    for (first, refusal) in [
+        (0, Refusal::Header),
+        (u32::MAX, Refusal::Header),
+        (6, Refusal::BothLost),
+        (u32::MAX - 1, Refusal::BothLost),
+    ] {
+        let header = &mut cluster.image_mut(1)[..geometry.header_len()];
+        pieces::write_header(header, geometry.shape(), 1, first).unwrap();
+        assert_refused(cluster.image(1), geometry, replica, refusal);
+    }
 }
 
 #[test]
@@ -59,6 +128,42 @@ fn format_is_refused() {
         Err(Refusal::ReplicaCount)
     );
     assert!(image.iter().all(|&byte| byte == 7));
+}
+
+/// 20 in each of its ways, behind 2 and before 3; a last index of 4,294,967,295 is accepted.
+#[test]
+fn first_indexes() {
+    let one = Geometry::new(3, 2).unwrap();
+    let two = Geometry::edition_2(3, 2).unwrap();
+    let replica = one.replica(1).unwrap();
+    let other = Geometry::new(7, 2).unwrap().replica(7).unwrap();
+    for (geometry, first) in [
+        (one, 0),
+        (one, 2),
+        (one, u32::MAX),
+        (two, 0),
+        (two, u32::MAX),
+    ] {
+        for length in [0, geometry.image_len()] {
+            let mut image = vec![7; length];
+            let refused = format_from(&mut image, geometry, replica, first);
+            assert_eq!(refused, Err(Refusal::FirstIndex));
+            let refused = format_from(&mut image, geometry, other, first);
+            assert_eq!(refused, Err(Refusal::ReplicaCount));
+            assert!(image.iter().all(|&byte| byte == 7));
+        }
+    }
+    for (geometry, first) in [(one, 1), (two, 1), (two, u32::MAX - 1)] {
+        let mut image = vec![7; geometry.image_len()];
+        format_from(&mut image, geometry, replica, first).unwrap();
+        let log = read(&image, geometry, replica).unwrap();
+        assert_eq!((log.first(), log.index(2)), (first, Some(first + 1)));
+        if first == 1 {
+            let mut plain = vec![8; geometry.image_len()];
+            format(&mut plain, geometry, replica).unwrap();
+            assert_eq!(plain, image);
+        }
+    }
 }
 
 #[test]

@@ -3,8 +3,9 @@
 mod common;
 
 use common::{epoch, Cluster};
-use ropelog::{Epoch, Geometry, PlanAction, Refusal, ReplicaSet, StoreKind, Verdict};
-use ropelog::{MAX_REPLICAS, MIN_REPLICAS};
+use ropelog::pieces::Shape;
+use ropelog::{Edition, Epoch, Geometry, PlanAction, Refusal, ReplicaSet, StoreKind, Verdict};
+use ropelog::{HEADER_LEN, HEADER_LEN_2, MAX_REPLICAS, MIN_REPLICAS};
 
 #[test]
 fn geometries() {
@@ -18,13 +19,38 @@ fn geometries() {
             } else {
                 Ok((n, m))
             };
-            let made = Geometry::new(n, m);
-            assert_eq!(
-                made.map(|made| (made.replica_count(), made.slot_count())),
-                expected
-            );
+            for made in [Geometry::new(n, m), Geometry::edition_2(n, m)] {
+                assert_eq!(
+                    made.map(|made| (made.replica_count(), made.slot_count())),
+                    expected
+                );
+            }
         }
     }
+}
+
+#[test]
+fn editions() {
+    let (one, two) = (Geometry::new(5, 4), Geometry::edition_2(5, 4));
+    let (one, two) = (one.unwrap(), two.unwrap());
+    assert_ne!(one, two);
+    assert_eq!((one.edition(), two.edition()), (Edition::One, Edition::Two));
+    assert_eq!((Edition::One.number(), Edition::Two.number()), (1, 2));
+    let edition = 2;
+    assert_eq!(
+        two.shape(),
+        Shape {
+            n: 5,
+            m: 4,
+            edition
+        }
+    );
+    assert_eq!(one.shape().edition, 1);
+    assert_eq!((one.header_len(), two.header_len()), (28, 39));
+    assert_eq!((HEADER_LEN, HEADER_LEN_2), (28, 39));
+    // The archive takes it as three words.
+    assert_eq!(std::mem::size_of::<Shape>(), 24);
+    assert_eq!(std::mem::align_of::<Shape>(), 8);
 }
 
 #[test]
@@ -35,11 +61,21 @@ fn sizes() {
     assert_eq!(large.image_len(), 17_564);
     assert_eq!(large.cluster_len(), 7 * 17_564);
     assert_eq!(large.enough_stores(), 3 * 7 * 64);
+    assert_eq!(Geometry::edition_2(3, 1).unwrap().image_len(), 313);
+    let large = Geometry::edition_2(7, 64).unwrap();
+    assert_eq!(large.image_len(), 17_575);
+    assert_eq!(large.cluster_len(), 7 * 17_575);
+    assert_eq!(large.enough_stores(), 3 * 7 * 64);
 }
 
 #[test]
 fn ranges_follow_each_other() {
-    let geometry = Geometry::new(5, 4).unwrap();
+    for geometry in [Geometry::new(5, 4), Geometry::edition_2(5, 4)] {
+        assert_ranges_follow(geometry.unwrap());
+    }
+}
+
+fn assert_ranges_follow(geometry: Geometry) {
     let mut at = 0;
     for replica in geometry.replicas() {
         let image = geometry.image_range(replica);
@@ -47,7 +83,7 @@ fn ranges_follow_each_other() {
         at = image.end;
     }
     assert_eq!(at, geometry.cluster_len());
-    let mut at = ropelog::HEADER_LEN;
+    let mut at = geometry.header_len();
     for range in (1..=4)
         .map(|slot| geometry.record_range(slot))
         .chain((1..=4).map(|slot| geometry.entry_range(slot)))
@@ -112,16 +148,16 @@ fn epochs() {
 
 #[test]
 fn refusals_have_their_numbers() {
-    for (at, refusal) in Refusal::ALL.into_iter().enumerate() {
-        assert_eq!(usize::from(refusal.number()), at + 1);
-        assert_eq!(Refusal::from_number(refusal.number()), Some(refusal));
+    for (refusal, number) in Refusal::ALL.into_iter().zip((1..=14).chain(20..=21)) {
+        assert_eq!(refusal.number(), number);
+        assert_eq!(Refusal::from_number(number), Some(refusal));
         let text = refusal.to_string();
         assert!(
-            text.starts_with(&format!("refused by {}: ", at + 1)),
+            text.starts_with(&format!("refused by {number}: ")),
             "{text}"
         );
     }
-    for number in [0, 15, 255] {
+    for number in [0, 15, 19, 22, 255] {
         assert_eq!(Refusal::from_number(number), None);
     }
     assert_eq!(

@@ -1,11 +1,11 @@
 //! The pieces of an image.
 
 use ropelog::pieces::{
-    checksum, is_header, judge_entry, judge_record, payload_range, read_column, write_blank_record,
-    write_entry, write_fresh_entry, write_header, write_number, write_record, Column, Entry,
-    Record,
+    checksum, judge_entry, judge_header, judge_record, payload_range, read_column,
+    write_blank_record, write_entry, write_fresh_entry, write_header, write_number, write_record,
+    Column, Entry, Header, Record, Shape,
 };
-use ropelog::{Refusal, ENTRY_LEN, HEADER_LEN, RECORD_LEN};
+use ropelog::{Refusal, ENTRY_LEN, HEADER_LEN, HEADER_LEN_2, RECORD_LEN};
 
 #[test]
 fn checksums() {
@@ -37,15 +37,55 @@ fn columns() {
 
 #[test]
 fn headers() {
+    let shape = shape_of(1);
     let mut header = [b'#'; HEADER_LEN];
-    write_header(&mut header, 2, 5, 64);
+    write_header(&mut header, shape, 2, 1).unwrap();
     assert_eq!(&header[..16], b"rope  1  2  5 64");
     assert_eq!(header[27], b'\n');
-    assert!(is_header(&header, 2, 5, 64));
-    assert!(!is_header(&header, 3, 5, 64));
-    assert!(!is_header(&header[..27], 2, 5, 64));
+    let good = Header::Good { first: 1 };
+    assert_eq!(judge_header(&header, shape, 2), good);
+    assert_eq!(judge_header(&header, shape, 3), Header::Other);
+    assert_eq!(judge_header(&header[..27], shape, 2), Header::Other);
+    assert_eq!(judge_header(&header, shape_of(2), 2), Header::Other);
+    // The first index does not stand in it.
+    let before = header;
+    write_header(&mut header, shape, 2, 7).unwrap();
+    assert_eq!(header, before);
     header[27] = b' ';
-    assert!(!is_header(&header, 2, 5, 64));
+    assert_eq!(judge_header(&header, shape, 2), Header::Other);
+}
+
+/// Five replicas of 64 slots.
+fn shape_of(edition: usize) -> Shape {
+    Shape {
+        n: 5,
+        m: 64,
+        edition,
+    }
+}
+
+#[test]
+fn headers_of_edition_2() {
+    let shape = shape_of(2);
+    let mut header = [b'#'; HEADER_LEN_2];
+    let refused = write_header(&mut header, shape_of(1), 2, 7);
+    assert_eq!(refused, Err(Refusal::BufferLength));
+    assert_eq!(header, [b'#'; HEADER_LEN_2]);
+    for first in [1, 7, 4_294_967_232] {
+        write_header(&mut header, shape, 2, first).unwrap();
+        let text = format!("rope  2  2  5 64{first:>11}");
+        assert_eq!(&header[..27], text.as_bytes());
+        let sum = format!("{:>11}\n", checksum(text.as_bytes()));
+        assert_eq!(&header[27..], sum.as_bytes());
+        assert_eq!(judge_header(&header, shape, 2), Header::Good { first });
+        assert_eq!(judge_header(&header, shape, 1), Header::Other);
+        assert_eq!(judge_header(&header, shape_of(1), 2), Header::Other);
+    }
+    // Written as they are, and no header of 64 slots.
+    for first in [0, 4_294_967_233, u32::MAX] {
+        write_header(&mut header, shape, 2, first).unwrap();
+        assert_eq!(judge_header(&header, shape, 2), Header::Other);
+    }
 }
 
 #[test]

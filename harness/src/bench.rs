@@ -6,24 +6,26 @@ mod timing;
 
 use std::fmt;
 
+use crate::model::Shape;
 use checksum::ByteTimes;
 use timing::Times;
 
 /// Payload bytes of each entry: a usual line of text, and as many as there may be.
 const SIZES: [usize; 2] = [20, 200];
-/// Replicas and slots of the clusters.
+/// Replicas and slots of the clusters, which are of edition 1 where nothing else is said.
 const SHAPES: [(usize, usize); 4] = [(3, 8), (3, 64), (7, 8), (7, 64)];
+/// A cluster of edition 2: its records and entries are judged under the header's first index.
+const EDITION_2: Shape = Shape::edition_2(7, 64);
 /// Slots in the table of how reading and planning grow.
 const SLOTS: [usize; 7] = [1, 2, 4, 8, 16, 32, 64];
 /// Stores in the table of how a recovery grows.
 const STORES: [usize; 5] = [1, 4, 16, 64, 256];
 /// How many calls are timed.
 pub const TIMED: usize =
-    checksum::LENGTHS.len() + SIZES.len() * (4 + 3 * SHAPES.len()) + 2 * SLOTS.len() + STORES.len();
+    checksum::LENGTHS.len() + SIZES.len() * (6 + 3 * SHAPES.len()) + 2 * SLOTS.len() + STORES.len();
 
-/// Times a call by the slots and the payload bytes; the other by the replicas first.
-type OfImage = fn(usize, usize) -> Times;
-type OfCluster = fn(usize, usize, usize) -> Times;
+/// Times a call by the shape and the payload bytes.
+type Timed = fn(Shape, usize) -> Times;
 
 /// One call on one shape, for each size of the payloads. A call about one image has no n.
 struct Row {
@@ -49,28 +51,31 @@ pub fn bench() -> Bench {
         checksums: checksum::LENGTHS.map(checksum::byte_times),
         rows: rows(),
         by_slots: SLOTS
-            .map(|m| (m, calls::read(m, most), calls::plan(7, m, most)))
+            .map(|m| {
+                let shape = Shape::edition_1(7, m);
+                (m, calls::read(shape, most), calls::plan(shape, most))
+            })
             .into(),
         by_stores: STORES
-            .map(|stores| (stores, calls::recovery_of_stores(7, 64, most, stores)))
+            .map(|stores| {
+                let shape = Shape::edition_1(7, 64);
+                (stores, calls::recovery_of_stores(shape, most, stores))
+            })
             .into(),
     }
 }
 
 fn rows() -> Vec<Row> {
     let mut rows = Vec::new();
-    let read: OfImage = calls::read;
+    let read: Timed = calls::read;
     for (name, call) in [("read", read), ("append", calls::append)] {
         for m in [8, 64] {
-            rows.push(Row {
-                name,
-                n: None,
-                m: Some(m),
-                times: SIZES.map(|size| call(m, size)),
-            });
+            let shape = Shape::edition_1(3, m);
+            rows.push(row_of(name, None, shape, call));
         }
     }
-    let plan: OfCluster = calls::plan;
+    rows.push(row_of("read, edition 2", None, EDITION_2, calls::read));
+    let plan: Timed = calls::plan;
     let of_cluster = [
         ("plan", plan),
         ("step", calls::step),
@@ -78,15 +83,22 @@ fn rows() -> Vec<Row> {
     ];
     for (name, call) in of_cluster {
         for (n, m) in SHAPES {
-            rows.push(Row {
-                name,
-                n: Some(n),
-                m: Some(m),
-                times: SIZES.map(|size| call(n, m, size)),
-            });
+            let shape = Shape::edition_1(n, m);
+            rows.push(row_of(name, Some(n), shape, call));
         }
     }
+    let n = Some(EDITION_2.n);
+    rows.push(row_of("plan, edition 2", n, EDITION_2, calls::plan));
     rows
+}
+
+fn row_of(name: &'static str, n: Option<usize>, shape: Shape, call: Timed) -> Row {
+    Row {
+        name,
+        n,
+        m: Some(shape.m),
+        times: SIZES.map(|size| call(shape, size)),
+    }
 }
 
 /// A call's times and their ratio, in three columns.
@@ -103,6 +115,7 @@ const HEADINGS: &str = "     proved      model    ratio";
 
 const MEANING: &str = "\
 Times are medians, of one call; ratio is the model's time by the proved function's.
+Cards are of edition 1 where 2 is not named.
 read       of a full log
 append     of the last slot of a log
 plan       every entry of leader 1 is damaged and to be fetched

@@ -56,32 +56,64 @@ calls! {
     Checksum { bytes: Vec<u8> }
     WriteNumber { width: usize, number: u64 }
     ReadColumn { column: Vec<u8> }
-    WriteHeader { length: usize, replica: usize, n: usize, m: usize }
-    IsHeader { header: Vec<u8>, replica: usize, n: usize, m: usize }
+    WriteHeader {
+        length: usize,
+        n: usize,
+        m: usize,
+        edition: usize,
+        replica: usize,
+        first: u32,
+    }
+    JudgeHeader { header: Vec<u8>, n: usize, m: usize, edition: usize, replica: usize }
     WriteRecord { length: usize, epoch: u32, index: u32 }
     WriteBlankRecord { length: usize }
     JudgeRecord { record: Vec<u8>, index: u32 }
     WriteEntry { length: usize, epoch: u32, index: u32, payload: Vec<u8> }
     WriteFreshEntry { length: usize }
     JudgeEntry { entry: Vec<u8>, index: u32 }
-    Format { length: usize, replica: usize, n: usize, m: usize }
-    Append { replica: usize, n: usize, m: usize, epoch: u32, payload: Vec<u8>, image: Vec<u8> }
+    Format { length: usize, n: usize, m: usize, edition: usize, replica: usize, first: u32 }
+    Append {
+        n: usize,
+        m: usize,
+        edition: usize,
+        replica: usize,
+        epoch: u32,
+        payload: Vec<u8>,
+        image: Vec<u8>,
+    }
     /// Of the lent epochs and verdicts only their numbers are given.
-    Read { replica: usize, n: usize, m: usize, epochs: usize, verdicts: usize, image: Vec<u8> }
-    HasPayload { replica: usize, n: usize, m: usize, slot: usize, image: Vec<u8> }
-    Payload { replica: usize, n: usize, m: usize, slot: usize, image: Vec<u8> }
+    Read {
+        n: usize,
+        m: usize,
+        edition: usize,
+        replica: usize,
+        epochs: usize,
+        verdicts: usize,
+        image: Vec<u8>,
+    }
+    HasPayload { n: usize, m: usize, edition: usize, replica: usize, slot: usize, image: Vec<u8> }
+    Payload { n: usize, m: usize, edition: usize, replica: usize, slot: usize, image: Vec<u8> }
     /// The plan that is lent has so many slots, and the table so many rows.
     Plan {
         n: usize,
         m: usize,
+        edition: usize,
         leader: usize,
         present: u32,
         slots: usize,
         rows: usize,
         cluster: Vec<u8>,
     }
-    Step { n: usize, m: usize, leader: usize, present: u32, cluster: Vec<u8> }
-    Run { n: usize, m: usize, leader: usize, present: u32, budget: u64, cluster: Vec<u8> }
+    Step { n: usize, m: usize, edition: usize, leader: usize, present: u32, cluster: Vec<u8> }
+    Run {
+        n: usize,
+        m: usize,
+        edition: usize,
+        leader: usize,
+        present: u32,
+        budget: u64,
+        cluster: Vec<u8>,
+    }
 }
 
 impl Field<'_> {

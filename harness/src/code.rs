@@ -38,8 +38,8 @@ impl Code {
     }
 }
 
-/// The refusals of calls, by their numbers from 1 on. 14 is the printing program's.
-const REFUSALS: [Refusal; 13] = [
+/// The refusals of calls. 14 is the printing program's.
+const REFUSALS: [Refusal; 15] = [
     Refusal::SlotCount,
     Refusal::ReplicaCount,
     Refusal::BufferLength,
@@ -53,15 +53,19 @@ const REFUSALS: [Refusal; 13] = [
     Refusal::Present,
     Refusal::Leader,
     Refusal::LentLength,
+    Refusal::FirstIndex,
+    Refusal::FirstDiffers,
 ];
 
 /// What a call about an image or a cluster answers with this number.
 fn accepted(number: u8) -> Result<(), Refusal> {
-    match usize::from(number) {
-        0 => Ok(()),
-        at @ 1..=13 => Err(REFUSALS[at - 1]),
-        _ => panic!("refused by {number}"),
+    if number == 0 {
+        return Ok(());
     }
+    let refusal = REFUSALS
+        .into_iter()
+        .find(|refusal| refusal.number() == number);
+    Err(refusal.unwrap_or_else(|| panic!("refused by {number}")))
 }
 
 /// Two tests of each of these functions: `model::NAME` on the model, `proved::NAME` on the proved code.

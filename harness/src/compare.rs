@@ -89,18 +89,20 @@ mod tests {
     #[test]
     fn a_byte_outside_is_told() {
         let wrong = Side {
-            format: |image, replica, n, m| {
+            format: |image, shape, replica, first| {
                 // SAFETY: `Guarded` keeps 32 bytes behind the image in the same buffer.
                 unsafe { *image.as_mut_ptr().add(image.len()) ^= 1 };
-                (PROVED.format)(image, replica, n, m)
+                (PROVED.format)(image, shape, replica, first)
             },
             ..PROVED
         };
         let call = Call::Format {
             length: 10,
-            replica: 1,
             n: 3,
             m: 1,
+            edition: 1,
+            replica: 1,
+            first: 1,
         };
         let told = compare(&call, 0, &MODEL, &wrong).unwrap_err();
         assert_eq!(told, "Format: written outside image, at offset 10");

@@ -11,7 +11,19 @@ pub mod images;
 #[path = "../../bindings/src/exported.rs"]
 mod exported;
 
+use crate::model::Shape;
 use exported::no_such;
+
+/// The model's shape, laid out for the proved calls.
+impl From<Shape> for exported::Shape {
+    fn from(shape: Shape) -> exported::Shape {
+        exported::Shape {
+            n: shape.n,
+            m: shape.m,
+            edition: shape.edition,
+        }
+    }
+}
 
 /// What a writer did. Unless it wrote, every byte is as it was.
 #[derive(Clone, Copy, Debug, PartialEq, Eq)]
@@ -29,6 +41,14 @@ pub enum Column {
     Blank,
     Malformed,
     WrongLength,
+}
+
+/// What a header is.
+#[derive(Clone, Copy, Debug, PartialEq, Eq)]
+pub enum Header {
+    /// Good; its first index was handed out.
+    Good,
+    Other,
 }
 
 /// What a record is.
@@ -72,11 +92,11 @@ pub fn read_column(column: &[u8], value: &mut u64) -> Column {
     }
 }
 
-pub fn write_header(header: &mut [u8], replica: usize, n: usize, m: usize) -> Written {
+pub fn write_header(header: &mut [u8], shape: Shape, replica: usize, first: u32) -> Written {
     let (pointer, len) = (header.as_mut_ptr(), header.len());
     // SAFETY: the slice is lent for the call.
     written("rope_write_header", unsafe {
-        exported::rope_write_header(pointer, len, replica, n, m)
+        exported::rope_write_header(pointer, len, shape.into(), replica, first)
     })
 }
 
@@ -116,12 +136,12 @@ pub fn write_fresh_entry(entry: &mut [u8]) -> Written {
     })
 }
 
-pub fn is_header(header: &[u8], replica: usize, n: usize, m: usize) -> bool {
+pub fn judge_header(header: &[u8], shape: Shape, replica: usize, first: &mut u32) -> Header {
     let (pointer, len) = (header.as_ptr(), header.len());
-    // SAFETY: the slice is lent for the call.
-    match unsafe { exported::rope_judge_header(pointer, len, replica, n, m) } {
-        0 => true,
-        1 => false,
+    // SAFETY: the slice and the number are lent for the call, and do not overlap.
+    match unsafe { exported::rope_judge_header(pointer, len, shape.into(), replica, first) } {
+        0 => Header::Good,
+        1 => Header::Other,
         code => no_such("rope_judge_header", code),
     }
 }

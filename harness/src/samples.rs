@@ -5,7 +5,7 @@ use std::io;
 use std::path::Path;
 
 use crate::generate::Cluster;
-use crate::model;
+use crate::model::{self, Shape};
 
 /// An input of the printing program.
 pub struct Sample {
@@ -72,7 +72,7 @@ fn spoil_entry(cluster: &mut Cluster, replica: usize, slot: usize) {
 
 /// Makes a slot, the last used one, what it is on a fresh card.
 fn never_had(cluster: &mut Cluster, replica: usize, slot: usize) {
-    let fresh = Cluster::fresh(cluster.n, cluster.m);
+    let fresh = Cluster::fresh(cluster.shape.n, cluster.shape.m);
     let record = fresh.record(replica, slot);
     cluster.record_mut(replica, slot).copy_from_slice(record);
     let entry = fresh.entry(replica, slot);
@@ -87,7 +87,8 @@ fn sample(name: &'static str, cluster: Cluster, present: &[usize]) -> Sample {
 
 /// A sample with this text in the set's column.
 fn sample_of(name: &'static str, cluster: Cluster, set: &str) -> Sample {
-    let mut input = format!("{:>3}{:>3}  1{set:>4}\n", cluster.n, cluster.m).into_bytes();
+    let Shape { n, m, .. } = cluster.shape;
+    let mut input = format!("{n:>3}{m:>3}  1{set:>4}\n").into_bytes();
     input.extend(&cluster.bytes);
     Sample { name, input }
 }

@@ -1,8 +1,10 @@
 //! A blank set means the leader alone (document 02, request Ten), printed by the model and by the built
 //! program.
 
-use harness::generate::{agreed_case, arbitrary_case, Case, Cluster};
-use harness::model::report;
+use harness::generate::arbitrary::arbitrary_case_of;
+use harness::generate::history::agreed_case_of;
+use harness::generate::{some_shape_of, Case, Cluster};
+use harness::model::{report, Shape};
 use harness::program;
 use harness::property::case_rng;
 use harness::samples::samples;
@@ -47,8 +49,11 @@ fn it_is_printed_as_the_leader_in_full_and_nothing_is_cut() {
     let (mut plans, mut waiting) = (0, 0);
     for number in 0..200 {
         let mut rng = case_rng(31, number);
-        for case in [agreed_case(&mut rng).case, arbitrary_case(&mut rng)] {
-            let Case { n, m, cluster, .. } = case;
+        let shape = some_shape_of(&mut rng, 1);
+        let agreed = agreed_case_of(&mut rng, shape).case;
+        for case in [agreed, arbitrary_case_of(&mut rng, shape)] {
+            let Case { shape, cluster, .. } = case;
+            let Shape { n, m, .. } = shape;
             for leader in 1..=n {
                 let blank = printed(&input(n, m, leader, BLANK, &cluster));
                 assert_eq!(

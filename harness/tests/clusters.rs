@@ -5,7 +5,7 @@ use harness::call::Call;
 use harness::comparisons::clusters::{self, compare_plan, compare_recovery};
 use harness::comparisons::ENOUGH;
 use harness::generate::{recovery_case_of, Case, Cluster, Rng};
-use harness::model::{MAX_REPLICAS, MAX_SLOTS, MIN_REPLICAS};
+use harness::model::{Shape, LAST_INDEX, MAX_REPLICAS, MAX_SLOTS, MIN_REPLICAS};
 use harness::property::case_rng;
 use harness::tally::Tally;
 
@@ -24,7 +24,11 @@ fn plans_of_every_slot_count() {
     let mut rng = Rng::new(13);
     for m in 1..=MAX_SLOTS {
         for n in MIN_REPLICAS..=MAX_REPLICAS {
-            let mut cluster = Cluster::fresh(n, m);
+            // Every other cluster is of edition 2 and ends with the last index.
+            let mut cluster = match (m + n) % 2 {
+                0 => Cluster::fresh(n, m),
+                _ => Cluster::fresh_from(n, m, LAST_INDEX - (m as u32 - 1)),
+            };
             for replica in 1..=n {
                 for slot in 1..=m {
                     cluster.put(replica, slot, 1 + slot as u32 / 7, b"payload");
@@ -45,10 +49,9 @@ fn plans_of_every_slot_count() {
 /// All replicas are present; a plan of so many slots and a table of so many rows are lent.
 fn plan_of(cluster: &Cluster, leader: usize, slots: usize, rows: usize) -> Call {
     let case = Case {
-        n: cluster.n,
-        m: cluster.m,
+        shape: cluster.shape,
         leader,
-        present: (1 << cluster.n) - 1,
+        present: (1 << cluster.shape.n) - 1,
         cluster: cluster.bytes.clone(),
     };
     case.plan(slots, rows)
@@ -88,9 +91,12 @@ fn recoveries_of_every_slot_count() {
     for m in 1..=MAX_SLOTS {
         let mut tally = Tally::default();
         for n in MIN_REPLICAS..=MAX_REPLICAS {
-            let mut rng = case_rng(15, 100 * n as u64 + m as u64);
-            let case = recovery_case_of(&mut rng, n, m);
-            compare_recovery(&mut rng, &case, &mut tally);
+            for edition in [1, 2] {
+                let number = 1000 * edition + 100 * n + m;
+                let mut rng = case_rng(15, number as u64);
+                let case = recovery_case_of(&mut rng, Shape { n, m, edition });
+                compare_recovery(&mut rng, &case, &mut tally);
+            }
         }
         assert!(tally.of("m", m) > 0, "none of {m} slots is recovered");
     }

@@ -3,6 +3,7 @@
 #![deny(dead_code)]
 
 use harness::code::{Code, MODEL, PROVED};
+use harness::model::{image_offset, record_offset, RECORD_LEN};
 use harness::on_both_sides;
 use harness::property::{check_agreed, check_arbitrary, check_images, check_reports};
 use harness::side::{self, Side};
@@ -23,6 +24,10 @@ fn clusters_whose_logs_agreed(on: Code) {
         coverage.refused,
         coverage.truncated,
         coverage.even,
+        coverage.edition_2,
+        coverage.elsewhere,
+        coverage.first_differs,
+        coverage.last_index,
         coverage.fetched,
         coverage.out_of_reach,
         coverage.records_lost,
@@ -43,6 +48,8 @@ fn arbitrary_clusters(on: Code) {
         coverage.waiting,
         coverage.refused,
         coverage.truncated,
+        coverage.first_differs,
+        coverage.last_index,
         coverage.torn,
         coverage.cut,
         coverage.refused_calls,
@@ -65,6 +72,11 @@ fn images_of_any_bytes(on: Code) {
         coverage.verdicts.iter().all(|&count| count >= 50),
         "{coverage:?}"
     );
+    assert!(
+        coverage.editions.iter().all(|&count| count >= 1_000),
+        "{coverage:?}"
+    );
+    assert!(coverage.later >= 1_000, "{coverage:?}");
 }
 
 /// The proved program is started anew for each input.
@@ -104,11 +116,32 @@ fn found(wrong: Side) -> String {
 #[test]
 fn a_step_that_names_a_store_and_makes_none_is_found() {
     let found = found(Side {
-        step: |cluster, n, m, leader, present, status, replica, slot, kind| {
+        step: |cluster, shape, leader, present, status, replica, slot, kind| {
             let mut copy = cluster.to_vec();
             (side::PROVED.step)(
-                &mut copy, n, m, leader, present, status, replica, slot, kind,
+                &mut copy, shape, leader, present, status, replica, slot, kind,
             )
+        },
+        ..side::PROVED
+    });
+    assert!(found.ends_with("a step made another store"), "{found}");
+}
+
+/// A record that it writes has the number of its slot for its index.
+#[test]
+fn a_step_that_forgets_the_first_index_is_found() {
+    let found = found(Side {
+        step: |cluster, shape, leader, present, status, replica, slot, kind| {
+            let step = side::PROVED.step;
+            let answer = step(cluster, shape, leader, present, status, replica, slot, kind);
+            if (answer, *status, *kind) == (0, 2, 2) {
+                let at = image_offset(shape, *replica) + record_offset(shape, *slot);
+                let record = &mut cluster[at..at + RECORD_LEN];
+                let mut epoch = 0;
+                (side::PROVED.read_column)(&record[..11], &mut epoch);
+                (side::PROVED.write_record)(record, epoch as u32, *slot as u32);
+            }
+            answer
         },
         ..side::PROVED
     });
@@ -118,9 +151,11 @@ fn a_step_that_names_a_store_and_makes_none_is_found() {
 #[test]
 fn a_run_that_counts_a_store_too_many_is_found() {
     let found = found(Side {
-        run: |cluster, n, m, leader, present, budget, status, stores, slot| {
+        run: |cluster, shape, leader, present, budget, status, stores, slot| {
             let run = side::PROVED.run;
-            let answer = run(cluster, n, m, leader, present, budget, status, stores, slot);
+            let answer = run(
+                cluster, shape, leader, present, budget, status, stores, slot,
+            );
             if answer == 0 && *status == 0 {
                 *stores += 1;
             }
@@ -134,10 +169,12 @@ fn a_run_that_counts_a_store_too_many_is_found() {
 #[test]
 fn a_run_that_stores_once_and_claims_the_rest_is_found() {
     let found = found(Side {
-        run: |cluster, n, m, leader, present, budget, status, stores, slot| {
+        run: |cluster, shape, leader, present, budget, status, stores, slot| {
             let budget = budget.min(1);
             let run = side::PROVED.run;
-            let answer = run(cluster, n, m, leader, present, budget, status, stores, slot);
+            let answer = run(
+                cluster, shape, leader, present, budget, status, stores, slot,
+            );
             if *status == 2 {
                 *status = 0;
             }
@@ -152,9 +189,9 @@ fn a_run_that_stores_once_and_claims_the_rest_is_found() {
 #[test]
 fn a_planner_that_never_waits_is_found() {
     let found = found(Side {
-        plan: |cluster, n, m, leader, present, plan, rows, status, number| {
+        plan: |cluster, shape, leader, present, plan, rows, status, number| {
             let planned = side::PROVED.plan;
-            let answer = planned(cluster, n, m, leader, present, plan, rows, status, number);
+            let answer = planned(cluster, shape, leader, present, plan, rows, status, number);
             if answer == 0 && *status == 1 {
                 *status = 0;
                 *number -= 1;

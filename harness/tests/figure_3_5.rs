@@ -43,25 +43,25 @@ fn cluster(logs: [&str; 5]) -> Cluster {
 fn recovered(on: Code, cluster: &mut Cluster, present: u32) -> (RunEnd, usize) {
     let before = cluster.clone();
     let answer = on
-        .run(&mut cluster.bytes, 5, 3, 1, present, 3 * 5 * 3)
+        .run(&mut cluster.bytes, cluster.shape, 1, present, 3 * 5 * 3)
         .unwrap();
     if answer.end != RunEnd::Done {
         assert_eq!(*cluster, before);
     }
-    let log = on.judge_image(cluster.image(1), 1, 5, 3).unwrap();
+    let log = on.judge_image(cluster.image(1), cluster.shape, 1).unwrap();
     (answer.end, log.length)
 }
 
 /// Whether a replica holds slots 1 to `length` of epoch 1 with their payloads, and no more.
 fn holds(on: Code, cluster: &Cluster, replica: usize, length: usize) -> bool {
     let image = cluster.image(replica);
-    let log = on.judge_image(image, replica, 5, 3).unwrap();
+    let log = on.judge_image(image, cluster.shape, replica).unwrap();
     let slots = 1..=length;
     log.length == length
         && slots.into_iter().all(|slot| {
             log.verdict(slot) == Verdict::Intact
                 && log.epoch(slot) == 1
-                && on.payload(image, replica, 5, 3, slot) == [b'a' + slot as u8]
+                && on.payload(image, cluster.shape, replica, slot) == [b'a' + slot as u8]
         })
 }
 

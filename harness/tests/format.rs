@@ -1,4 +1,4 @@
-//! The card that docs/FORMAT.md shows byte by byte is the one that is written.
+//! The cards that docs/FORMAT.md shows byte by byte are those that are written.
 
 #![deny(dead_code)]
 
@@ -6,18 +6,37 @@ use std::fs;
 use std::path::{Path, PathBuf};
 
 use harness::code::Code;
-use harness::model::{image_len, record_offset, MAX_SLOTS, RECORD_LEN};
+use harness::model::{entry_offset, image_len, record_offset, Shape, MAX_SLOTS, RECORD_LEN};
 use harness::on_both_sides;
 
 on_both_sides! {
-    the_card_is_written,
-    the_card_is_read,
+    the_cards_are_written,
+    the_cards_are_read,
     every_checksum_is_of_the_bytes_that_are_named,
 }
 
 const REPLICA: usize = 2;
-const N: usize = 3;
 const M: usize = 2;
+const PAYLOAD: &[u8] = b"metre 1204, wire broken";
+
+/// A block of the page, and the log that it shows.
+struct Card {
+    block: &'static str,
+    shape: Shape,
+    first: u32,
+}
+
+const CARD: Card = Card {
+    block: "```card\n",
+    shape: Shape::edition_1(3, M),
+    first: 1,
+};
+
+const LATER: Card = Card {
+    block: "```later-card\n",
+    shape: Shape::edition_2(3, M),
+    first: 1205,
+};
 
 fn repository() -> PathBuf {
     Path::new(env!("CARGO_MANIFEST_DIR")).join("..")
@@ -61,59 +80,73 @@ fn part(line: &str) -> Part {
     }
 }
 
-/// The card's lines, each of which begins where the one before it ends.
-fn parts() -> Vec<Part> {
-    let page = page();
-    let (_, block) = page.split_once("```card\n").expect("a card");
-    let (block, _) = block.split_once("```").expect("the card's end");
-    let parts: Vec<Part> = block.lines().map(part).collect();
-    let mut end = 0;
-    for part in &parts {
-        assert_eq!(part.at, end, "{}", part.meaning);
-        end += part.bytes.len();
+impl Card {
+    /// Its lines, each of which begins where the one before it ends.
+    fn parts(&self) -> Vec<Part> {
+        let page = page();
+        let (_, block) = page.split_once(self.block).expect("a card");
+        let (block, _) = block.split_once("```").expect("the card's end");
+        let parts: Vec<Part> = block.lines().map(part).collect();
+        let mut end = 0;
+        for part in &parts {
+            assert_eq!(part.at, end, "{}", part.meaning);
+            end += part.bytes.len();
+        }
+        assert_eq!(end, image_len(self.shape));
+        parts
     }
-    assert_eq!(end, image_len(M));
-    parts
+
+    fn bytes(&self) -> Vec<u8> {
+        self.parts()
+            .into_iter()
+            .flat_map(|part| part.bytes)
+            .collect()
+    }
 }
 
-fn card() -> Vec<u8> {
-    parts().into_iter().flat_map(|part| part.bytes).collect()
+fn the_cards_are_written(on: Code) {
+    for card in [CARD, LATER] {
+        let mut image = vec![0; image_len(card.shape)];
+        on.fresh_image(&mut image, card.shape, REPLICA, card.first)
+            .unwrap();
+        let slot = on.append(&mut image, card.shape, REPLICA, 1, PAYLOAD);
+        assert_eq!((slot, image), (Ok(1), card.bytes()));
+    }
 }
 
-fn the_card_is_written(on: Code) {
-    let card = card();
-    let mut image = vec![0; card.len()];
-    on.fresh_image(&mut image, REPLICA, N, M).unwrap();
-    let payload = &card[122..145];
-    let slot = on.append(&mut image, REPLICA, N, M, 1, payload);
-    assert_eq!((slot, image), (Ok(1), card));
-}
-
-fn the_card_is_read(on: Code) {
-    let card = card();
-    let (mut epochs, mut verdicts) = ([9; M], [9; M]);
-    let length = on.read(&card, REPLICA, N, M, &mut epochs, &mut verdicts);
-    assert_eq!((length, epochs, verdicts), (Ok(1), [1, 0], [1, 0]));
-    let payload = on.payload(&card, REPLICA, N, M, 1);
-    assert_eq!(payload, b"metre 1204, wire broken");
+fn the_cards_are_read(on: Code) {
+    for card in [CARD, LATER] {
+        let (bytes, shape) = (card.bytes(), card.shape);
+        let (mut epochs, mut verdicts) = ([9; M], [9; M]);
+        let read = on.read(&bytes, shape, REPLICA, &mut epochs, &mut verdicts);
+        assert_eq!(
+            (read, epochs, verdicts),
+            (Ok((1, card.first)), [1, 0], [1, 0])
+        );
+        assert_eq!(on.payload(&bytes, shape, REPLICA, 1), PAYLOAD);
+        let at = entry_offset(shape, 1) + 26;
+        assert_eq!(&bytes[at..at + PAYLOAD.len()], PAYLOAD);
+    }
 }
 
 /// "checksum of bytes 0 to 15" is what it says.
 fn every_checksum_is_of_the_bytes_that_are_named(on: Code) {
-    let (card, mut found) = (card(), 0);
-    for part in parts() {
-        let Some(range) = part.meaning.strip_prefix("checksum of bytes ") else {
-            continue;
-        };
-        let (first, last) = range.split_once(" to ").unwrap();
-        let (first, last): (usize, usize) = (first.parse().unwrap(), last.parse().unwrap());
-        let mut column = [0; 11];
-        on.write_column(&mut column, on.checksum(&card[first..=last]).into());
-        assert_eq!(part.bytes, column, "{range}");
-        assert_eq!(part.at, last + 1, "{range}");
-        found += 1;
+    for card in [CARD, LATER] {
+        let (bytes, mut found) = (card.bytes(), 0);
+        for part in card.parts() {
+            let Some(range) = part.meaning.strip_prefix("checksum of bytes ") else {
+                continue;
+            };
+            let (first, last) = range.split_once(" to ").unwrap();
+            let (first, last): (usize, usize) = (first.parse().unwrap(), last.parse().unwrap());
+            let mut column = [0; 11];
+            on.write_column(&mut column, on.checksum(&bytes[first..=last]).into());
+            assert_eq!(part.bytes, column, "{range}");
+            assert_eq!(part.at, last + 1, "{range}");
+            found += 1;
+        }
+        assert_eq!(found, 3);
     }
-    assert_eq!(found, 3);
 }
 
 /// The command that the page gives cuts the card out of the printing program's stored input.
@@ -122,25 +155,24 @@ fn the_command_prints_the_card() {
     let command = "`tail -c +591 crates/ropeplan/stdin | head -c 576`";
     assert!(page().contains(command));
     let input = fs::read(repository().join("crates/ropeplan/stdin")).unwrap();
-    assert_eq!(&input[590..590 + 576], card());
+    assert_eq!(&input[590..590 + 576], CARD.bytes());
 }
 
 /// The records that lie on both sides of a boundary if the image begins so far behind one.
-fn straddling(unit: usize, start: usize) -> Vec<usize> {
+fn straddling(shape: Shape, unit: usize, start: usize) -> Vec<usize> {
     let crosses = |slot: &usize| {
-        let first = start + record_offset(*slot);
+        let first = start + record_offset(shape, *slot);
         first / unit != (first + RECORD_LEN - 1) / unit
     };
     (1..=MAX_SLOTS).filter(crosses).collect()
 }
 
-#[test]
-fn records_in_two_sectors() {
-    let found = straddling(512, 0);
-    assert_eq!(found, [15, 30, 45, 60]);
+/// What the documents say of records that straddle a boundary of 512 bytes: these words, and where they are.
+fn straddle_as_said(shape: Shape, slots: [usize; 4], words: &str) {
+    assert_eq!(straddling(shape, 512, 0), slots);
     let page = page().replace('\n', " ");
-    for slot in found {
-        let first = record_offset(slot);
+    for slot in slots {
+        let first = record_offset(shape, slot);
         let range = format!("{} to {}", spelt(first), spelt(first + RECORD_LEN - 1));
         assert!(page.contains(&range), "{range}");
     }
@@ -151,15 +183,33 @@ fn records_in_two_sectors() {
         "include/ropelog.h",
     ] {
         let text = fs::read_to_string(repository().join(file)).unwrap();
-        let words: Vec<&str> = text.split_whitespace().collect();
-        assert!(
-            words.join(" ").contains("ecords 15, 30, 45 and 60"),
-            "{file}"
-        );
+        let text: Vec<&str> = text
+            .split_whitespace()
+            .filter(|word| *word != "*")
+            .collect();
+        assert!(text.join(" ").contains(words), "{file}: {words}");
     }
     // What README.md says of other units, and of another start of the image.
-    assert!(straddling(4096, 0).is_empty());
-    assert!((0..512).all(|start| straddling(512, start).len() >= 3));
+    assert!(straddling(shape, 4096, 0).is_empty());
+    assert!((0..512).all(|start| straddling(shape, 512, start).len() >= 3));
+}
+
+#[test]
+fn records_in_two_sectors() {
+    let slots = [15, 30, 45, 60];
+    straddle_as_said(
+        Shape::edition_1(3, MAX_SLOTS),
+        slots,
+        "ecords 15, 30, 45 and 60",
+    );
+}
+
+/// In edition 2, whose header is longer, they are others.
+#[test]
+fn records_in_two_sectors_of_edition_2() {
+    let slots = [14, 29, 45, 60];
+    let words = "in edition 2 records 14, 29, 45 and 60";
+    straddle_as_said(Shape::edition_2(3, MAX_SLOTS), slots, words);
 }
 
 /// A number with a comma before its last three digits.

@@ -6,7 +6,7 @@ use harness::call::Call;
 use harness::compare::test_text;
 use harness::fuzz::{fuzz, Difference};
 use harness::generate::{one_of_each, Rng};
-use harness::model::{cluster_len, image_len};
+use harness::model::{cluster_len, image_len, record_offset, Shape, RECORD_LEN};
 use harness::proved::Written;
 use harness::side::{Side, MODEL, PROVED};
 
@@ -111,8 +111,9 @@ fn a_number_is_written_too_wide() {
 #[test]
 fn an_ambiguous_slot_is_called_corrupt() {
     let found = found(Side {
-        read: |image, replica, n, m, epochs, verdicts, used| {
-            let answer = (PROVED.read)(image, replica, n, m, epochs, verdicts, used);
+        read: |image, shape, replica, epochs, verdicts, used, first| {
+            let read = PROVED.read;
+            let answer = read(image, shape, replica, epochs, verdicts, used, first);
             for verdict in verdicts.iter_mut().filter(|verdict| **verdict == 4) {
                 *verdict = 3;
             }
@@ -122,9 +123,10 @@ fn an_ambiguous_slot_is_called_corrupt() {
     });
     assert_eq!(found.told, "Read: verdicts[0] is 3, not 4");
     let Call::Read {
-        replica: 1,
         n: 3,
         m: 1,
+        edition: 1,
+        replica: 1,
         epochs: 1,
         verdicts: 1,
         image,
@@ -133,15 +135,15 @@ fn an_ambiguous_slot_is_called_corrupt() {
         panic!("{found:?}");
     };
     // Only the header and the record are there.
-    assert_eq!(image.len(), image_len(1));
+    assert_eq!(image.len(), image_len(Shape::edition_1(3, 1)));
     assert!(image[62..].iter().all(|&byte| byte == 0));
 }
 
 #[test]
 fn a_slot_after_the_truncation_is_truncated() {
     let found = found(Side {
-        plan: |cluster, n, m, leader, present, plan, rows, status, number| {
-            let answer = (PROVED.plan)(cluster, n, m, leader, present, plan, rows, status, number);
+        plan: |cluster, shape, leader, present, plan, rows, status, number| {
+            let answer = (PROVED.plan)(cluster, shape, leader, present, plan, rows, status, number);
             // The old contents of a refused plan may be any.
             if answer == 0 {
                 for byte in plan.iter_mut().filter(|byte| **byte == 5) {
@@ -156,6 +158,7 @@ fn a_slot_after_the_truncation_is_truncated() {
     let Call::Plan {
         n: 3,
         m: 2,
+        edition: 1,
         rows: 3,
         ..
     } = found.call
@@ -168,9 +171,9 @@ fn a_slot_after_the_truncation_is_truncated() {
 #[test]
 fn a_row_has_another_epoch() {
     let found = found(Side {
-        plan: |cluster, n, m, leader, present, plan, rows, status, number| {
-            let answer = (PROVED.plan)(cluster, n, m, leader, present, plan, rows, status, number);
-            if answer == 0 && n > 3 && rows[2].length > 1 {
+        plan: |cluster, shape, leader, present, plan, rows, status, number| {
+            let answer = (PROVED.plan)(cluster, shape, leader, present, plan, rows, status, number);
+            if answer == 0 && shape.n > 3 && rows[2].length > 1 {
                 rows[2].last_epoch ^= 1;
             }
             answer
@@ -181,6 +184,7 @@ fn a_row_has_another_epoch() {
     let Call::Plan {
         n: 4,
         m: 2,
+        edition: 1,
         slots: 2,
         rows: 4,
         ref cluster,
@@ -189,14 +193,14 @@ fn a_row_has_another_epoch() {
     else {
         panic!("{found:?}");
     };
-    assert_eq!(cluster.len(), cluster_len(4, 2));
+    assert_eq!(cluster.len(), cluster_len(Shape::edition_1(4, 2)));
 }
 
 #[test]
 fn a_refused_plan_changes_a_row() {
     let found = found(Side {
-        plan: |cluster, n, m, leader, present, plan, rows, status, number| {
-            let answer = (PROVED.plan)(cluster, n, m, leader, present, plan, rows, status, number);
+        plan: |cluster, shape, leader, present, plan, rows, status, number| {
+            let answer = (PROVED.plan)(cluster, shape, leader, present, plan, rows, status, number);
             if let (13, Some(row)) = (answer, rows.first_mut()) {
                 row.readable = 2;
             }
@@ -208,6 +212,7 @@ fn a_refused_plan_changes_a_row() {
     let Call::Plan {
         n: 3,
         m: 1,
+        edition: 1,
         rows: 1,
         ..
     } = found.call
@@ -219,18 +224,19 @@ fn a_refused_plan_changes_a_row() {
 #[test]
 fn a_row_behind_the_table_is_written() {
     let found = found(Side {
-        plan: |cluster, n, m, leader, present, plan, rows, status, number| {
+        plan: |cluster, shape, leader, present, plan, rows, status, number| {
             if rows.len() == 7 {
                 // SAFETY: `Guarded` keeps 32 rows behind the table in the same buffer.
                 unsafe { (*rows.as_mut_ptr().add(7)).length ^= 1 };
             }
-            (PROVED.plan)(cluster, n, m, leader, present, plan, rows, status, number)
+            (PROVED.plan)(cluster, shape, leader, present, plan, rows, status, number)
         },
         ..PROVED
     });
     let expected = Call::Plan {
         n: 0,
         m: 0,
+        edition: 0,
         leader: 0,
         present: 0,
         slots: 0,
@@ -244,15 +250,18 @@ fn a_row_behind_the_table_is_written() {
 #[test]
 fn a_run_of_no_budget_makes_a_store() {
     let found = found(Side {
-        run: |cluster, n, m, leader, present, budget, status, stores, slot| {
+        run: |cluster, shape, leader, present, budget, status, stores, slot| {
             let budget = budget.max(1);
-            (PROVED.run)(cluster, n, m, leader, present, budget, status, stores, slot)
+            (PROVED.run)(
+                cluster, shape, leader, present, budget, status, stores, slot,
+            )
         },
         ..PROVED
     });
     let Call::Run {
         n: 3,
         m: 1,
+        edition: 1,
         budget: 0,
         ref cluster,
         ..
@@ -260,7 +269,7 @@ fn a_run_of_no_budget_makes_a_store() {
     else {
         panic!("{found:?}");
     };
-    assert_eq!(cluster.len(), cluster_len(3, 1));
+    assert_eq!(cluster.len(), cluster_len(Shape::edition_1(3, 1)));
     let written = cluster.iter().filter(|&&byte| byte != 0 && byte != b' ');
     assert!(written.count() < 150, "{found:?}");
 }
@@ -268,18 +277,19 @@ fn a_run_of_no_budget_makes_a_store() {
 #[test]
 fn a_step_of_seven_replicas_writes_outside() {
     let found = found(Side {
-        step: |cluster, n, m, leader, present, status, replica, slot, kind| {
-            if n == 7 && m > 2 {
+        step: |cluster, shape, leader, present, status, replica, slot, kind| {
+            if shape.n == 7 && shape.m > 2 {
                 // SAFETY: `Guarded` keeps 32 bytes behind the cluster in the same buffer.
                 unsafe { *cluster.as_mut_ptr().add(cluster.len()) ^= 1 };
             }
-            (PROVED.step)(cluster, n, m, leader, present, status, replica, slot, kind)
+            (PROVED.step)(cluster, shape, leader, present, status, replica, slot, kind)
         },
         ..PROVED
     });
     let expected = Call::Step {
         n: 7,
         m: 3,
+        edition: 0,
         leader: 0,
         present: 0,
         cluster: Vec::new(),
@@ -291,18 +301,99 @@ fn a_step_of_seven_replicas_writes_outside() {
 #[test]
 fn a_side_that_panics_is_found() {
     let found = found(Side {
-        is_header: |header, replica, n, m| {
+        judge_header: |header, shape, replica, first| {
             assert!(replica < 1000, "too wide");
-            (PROVED.is_header)(header, replica, n, m)
+            (PROVED.judge_header)(header, shape, replica, first)
         },
         ..PROVED
     });
-    let expected = Call::IsHeader {
+    let expected = Call::JudgeHeader {
         header: Vec::new(),
-        replica: 1000,
         n: 0,
         m: 0,
+        edition: 0,
+        replica: 1000,
     };
     assert_eq!(found.call, expected);
-    assert_eq!(found.told, "IsHeader: a side panics");
+    assert_eq!(found.told, "JudgeHeader: a side panics");
+}
+
+#[test]
+fn a_first_index_is_not_handed_out() {
+    let found = found(Side {
+        read: |image, shape, replica, epochs, verdicts, used, _| {
+            let read = PROVED.read;
+            let mut first = 0;
+            read(image, shape, replica, epochs, verdicts, used, &mut first)
+        },
+        ..PROVED
+    });
+    assert!(found.told.starts_with("Read: first is "), "{found:?}");
+    let Call::Read {
+        n: 3,
+        m: 1,
+        edition: 1,
+        replica: 1,
+        ..
+    } = found.call
+    else {
+        panic!("{found:?}");
+    };
+}
+
+/// Records are judged by their slots instead of their indexes.
+#[test]
+fn a_first_index_is_taken_for_1() {
+    let found = found(Side {
+        append: |image, shape, replica, epoch, payload, slot| {
+            let answer = (PROVED.append)(image, shape, replica, epoch, payload, slot);
+            if answer == 0 {
+                let at = record_offset(shape, *slot);
+                let record = &mut image[at..at + RECORD_LEN];
+                (PROVED.write_record)(record, epoch, *slot as u32);
+            }
+            answer
+        },
+        ..PROVED
+    });
+    assert!(found.told.starts_with("Append: image["), "{found:?}");
+    let Call::Append {
+        n: 3,
+        m: 1,
+        edition: 2,
+        replica: 1,
+        ref image,
+        ..
+    } = found.call
+    else {
+        panic!("{found:?}");
+    };
+    assert_eq!(image.len(), image_len(Shape::edition_2(3, 1)));
+}
+
+#[test]
+fn a_cluster_of_different_first_indexes_is_planned() {
+    let found = found(Side {
+        plan: |cluster, shape, leader, present, plan, rows, status, number| {
+            let planned = PROVED.plan;
+            let answer = planned(cluster, shape, leader, present, plan, rows, status, number);
+            answer * u8::from(answer != 21)
+        },
+        ..PROVED
+    });
+    let told = "Plan: the answer is Refusal(0), not Refusal(21)";
+    assert_eq!(found.told, told);
+    let Call::Plan {
+        n: n @ 3..=4,
+        m: 1,
+        edition: 2,
+        slots: 0,
+        rows: 0,
+        ref cluster,
+        ..
+    } = found.call
+    else {
+        panic!("{found:?}");
+    };
+    assert_eq!(cluster.len(), cluster_len(Shape::edition_2(n, 1)));
 }

@@ -1,5 +1,6 @@
 //! The generators themselves: the same seed gives the same cases, and they are what they claim.
 
+use harness::generate::damage::header_of;
 use harness::generate::{agreed_case, arbitrary_case, noise_cluster, noise_image, AgreedCase};
 use harness::generate::{Case, Cluster};
 use harness::model::*;
@@ -8,18 +9,25 @@ use harness::property::case_rng;
 const CASES: u64 = 12_000;
 
 fn parts(case: &Case) -> Cluster {
-    Cluster {
-        n: case.n,
-        m: case.m,
-        bytes: case.cluster.clone(),
-    }
+    Cluster::of_bytes(case.shape, case.cluster.clone())
 }
 
 fn logs(case: &Case) -> Vec<Result<Log, Refusal>> {
     let cluster = parts(case);
-    (1..=case.n)
-        .map(|replica| judge_image(cluster.image(replica), replica, case.n, case.m))
+    (1..=case.shape.n)
+        .map(|replica| judge_image(cluster.image(replica), case.shape, replica))
         .collect()
+}
+
+/// The slot that has an index in a log, used or not, if the log has kept that index.
+fn slot_of(log: &Log, index: u32) -> Option<usize> {
+    let behind = index.checked_sub(log.first)? as usize;
+    (behind < log.epochs.len()).then_some(behind + 1)
+}
+
+/// The epoch under which a log has an index, 0 if it does not have it.
+fn epoch_at(log: &Log, index: u32) -> u32 {
+    slot_of(log, index).map_or(0, |slot| log.epoch(slot))
 }
 
 #[test]
@@ -36,7 +44,7 @@ fn the_same_seed_gives_the_same_cases() {
     assert_ne!(first, agreed_case(&mut case_rng(10, 0)).case);
 }
 
-/// Intact slots of one epoch agree, and so does everything below them.
+/// Intact slots of one index and one epoch agree, and so does everything below them that both keep.
 fn assert_agreed(case: &Case, logs: &[Result<Log, Refusal>]) {
     let cluster = parts(case);
     for (one, first) in logs.iter().enumerate() {
@@ -44,14 +52,20 @@ fn assert_agreed(case: &Case, logs: &[Result<Log, Refusal>]) {
             let (Ok(first), Ok(second)) = (first, second) else {
                 continue;
             };
-            for slot in 1..=first.length.min(second.length) {
-                if first.epoch(slot) != second.epoch(slot) {
+            for slot in 1..=first.length {
+                let index = first.index(slot);
+                let Some(other) = slot_of(second, index) else {
+                    continue;
+                };
+                if first.epoch(slot) != second.epoch(other) {
                     continue;
                 }
-                assert_eq!(first.epochs[..slot], second.epochs[..slot]);
-                let both = first.verdict(slot).has_payload() && second.verdict(slot).has_payload();
+                for lower in first.first.max(second.first)..index {
+                    assert_eq!(epoch_at(first, lower), epoch_at(second, lower));
+                }
+                let both = first.verdict(slot).has_payload() && second.verdict(other).has_payload();
                 if both {
-                    assert_eq!(cluster.entry(one + 1, slot), cluster.entry(two + 1, slot));
+                    assert_eq!(cluster.entry(one + 1, slot), cluster.entry(two + 1, other));
                 }
             }
         }
@@ -63,13 +77,65 @@ fn assert_held(agreed: &AgreedCase, logs: &[Result<Log, Refusal>]) {
     for committed in &agreed.committed {
         let leader_bit = 1 << (agreed.case.leader - 1);
         assert!(committed.holders & leader_bit != 0);
-        assert!(committed.holders.count_ones() as usize > agreed.case.n / 2);
+        assert!(committed.holders.count_ones() as usize > agreed.case.shape.n / 2);
+        assert_eq!(committed.elsewhere & !committed.holders, 0);
         for (at, log) in logs.iter().enumerate() {
             let Ok(log) = log else { continue };
-            let used = log.epoch(committed.slot) == committed.epoch;
+            let used = epoch_at(log, committed.index) == committed.epoch;
             assert_eq!(used, committed.holders >> at & 1 == 1);
         }
+        if let Ok(log) = &logs[agreed.case.leader - 1] {
+            assert_eq!(slot_of(log, committed.index), Some(committed.slot));
+        }
     }
+}
+
+/// What came up of editions and first indexes.
+#[derive(Debug, Default)]
+struct Firsts {
+    editions: [u64; 2],
+    /// Readable logs that begin at an index beyond 1, and those whose last slot has the last index.
+    later: u64,
+    last: u64,
+    /// Clusters in which the logs of one replica, of several, or of the leader alone begin elsewhere.
+    one: u64,
+    several: u64,
+    leader: u64,
+    /// Headers that are refused for their first index alone.
+    improper: u64,
+    /// Committed payloads that logs of different first indexes hold.
+    elsewhere: u64,
+}
+
+impl Firsts {
+    fn count(&mut self, case: &Case, logs: &[Result<Log, Refusal>]) {
+        self.editions[case.shape.edition - 1] += 1;
+        for log in logs.iter().flatten() {
+            self.later += u64::from(log.first > 1);
+            self.last += u64::from(log.index(case.shape.m) == LAST_INDEX);
+        }
+        if let Ok(leader) = &logs[case.leader - 1] {
+            let others: Vec<&Log> = logs.iter().flatten().collect();
+            let differ = others.iter().filter(|log| log.first != leader.first);
+            let differ = differ.count();
+            self.one += u64::from(differ == 1);
+            self.several += u64::from(differ > 1);
+            self.leader += u64::from(differ > 1 && differ + 1 == others.len());
+        }
+        let cluster = parts(case);
+        for (at, log) in logs.iter().enumerate() {
+            let header = &cluster.image(at + 1)[..header_len(case.shape)];
+            let improper = *log == Err(Refusal::Header) && is_sealed(header, case, at + 1);
+            self.improper += u64::from(improper);
+        }
+    }
+}
+
+/// Whether a header of edition 2 is the writer's but for its first index.
+fn is_sealed(header: &[u8], case: &Case, replica: usize) -> bool {
+    case.shape.edition == 2
+        && read_column(&header[16..27])
+            .is_some_and(|first| header == header_of(case.shape, replica, first))
 }
 
 #[test]
@@ -77,11 +143,15 @@ fn agreed_cases_are_what_recovery_supposes() {
     let mut verdicts = [0; 7];
     let (mut readable, mut headers, mut gaps) = (0, 0, 0);
     let (mut diverging, mut shorter, mut largest) = (0, 0, 0);
+    let mut firsts = Firsts::default();
     for number in 0..CASES {
         let agreed = agreed_case(&mut case_rng(11, number));
         let logs = logs(&agreed.case);
         assert_agreed(&agreed.case, &logs);
         assert_held(&agreed, &logs);
+        firsts.count(&agreed.case, &logs);
+        let elsewhere = agreed.committed.iter().filter(|one| one.elsewhere != 0);
+        firsts.elsewhere += elsewhere.count() as u64;
         for log in &logs {
             match log {
                 Ok(log) => {
@@ -99,7 +169,10 @@ fn agreed_cases_are_what_recovery_supposes() {
         }
         let logs: Vec<&Log> = logs.iter().flatten().collect();
         let differ = |one: &Log, two: &Log| {
-            (1..=one.length.min(two.length)).any(|slot| one.epoch(slot) != two.epoch(slot))
+            (1..=one.length).any(|slot| {
+                let epoch = epoch_at(two, one.index(slot));
+                epoch != 0 && epoch != one.epoch(slot)
+            })
         };
         diverging += u64::from(logs.iter().any(|log| differ(log, logs[0])));
         shorter += u64::from(logs.iter().any(|log| log.length < logs[0].length));
@@ -113,15 +186,31 @@ fn agreed_cases_are_what_recovery_supposes() {
         assert!(count > 20, "{headers} {gaps} {diverging} {shorter}");
     }
     assert!(largest > 5, "{largest}");
+    assert!(
+        firsts.editions.iter().all(|&count| count > CASES / 3),
+        "{firsts:?}"
+    );
+    let counts = [
+        firsts.later,
+        firsts.last,
+        firsts.one,
+        firsts.several,
+        firsts.leader,
+        firsts.improper,
+        firsts.elsewhere,
+    ];
+    assert!(counts.iter().all(|&count| count > 100), "{firsts:?}");
 }
 
 #[test]
 fn arbitrary_cases_are_mostly_readable_and_mostly_disagree() {
     let (mut readable, mut refused, mut disagree) = (0, 0, 0);
+    let mut firsts = Firsts::default();
     for number in 0..CASES {
         let case = arbitrary_case(&mut case_rng(12, number));
         let cluster = parts(&case);
         let logs = logs(&case);
+        firsts.count(&case, &logs);
         refused += logs.iter().filter(|log| log.is_err()).count();
         readable += logs.iter().filter(|log| log.is_ok()).count();
         for (at, log) in logs.iter().enumerate() {
@@ -134,4 +223,13 @@ fn arbitrary_cases_are_mostly_readable_and_mostly_disagree() {
     }
     assert!(readable > 5 * refused, "{readable} {refused}");
     assert!(disagree > CASES / 4, "{disagree}");
+    let counts = [
+        firsts.later,
+        firsts.last,
+        firsts.one,
+        firsts.several,
+        firsts.leader,
+        firsts.improper,
+    ];
+    assert!(counts.iter().all(|&count| count > 100), "{firsts:?}");
 }

@@ -5,7 +5,7 @@ use harness::compare::agree;
 use harness::comparisons::images::{self, compare, compare_read};
 use harness::comparisons::ENOUGH;
 use harness::generate::{image_calls, ImageCalls, Rng};
-use harness::model::{image_len, MAX_SLOTS};
+use harness::model::{image_len, Shape, LAST_INDEX, MAX_SLOTS};
 use harness::property::case_rng;
 use harness::tally::Tally;
 
@@ -35,44 +35,51 @@ fn images_of_every_slot_count() {
 #[test]
 fn filled_logs() {
     for m in 1..=MAX_SLOTS {
-        let mut rng = case_rng(3, m as u64);
-        let mut calls = ImageCalls {
-            replica: 1 + m % 5,
-            n: 5,
-            m,
-            image: vec![0; image_len(m)],
-            epochs: m,
-            verdicts: m,
-            epoch: 0,
-            payload: Vec::new(),
-        };
-        let format = agree(&mut rng, &calls.format());
-        calls.image.copy_from_slice(format.bytes("image"));
-        for expected in 1..=m {
-            calls.epoch += rng.below(3) as u32 + u32::from(expected == 1);
-            calls.payload = vec![b'7'; rng.below(201)];
-            let mut tally = Tally::default();
-            compare_read(&mut rng, &calls, &mut tally);
-            assert_eq!(tally.of("read", 0), 1);
-            let append = agree(&mut rng, &calls.append());
-            assert_eq!(append.number("slot"), expected as u64);
-            calls.image.copy_from_slice(append.bytes("image"));
-        }
-        let mut tally = Tally::default();
-        compare(&mut rng, &calls, &mut tally);
-        assert_eq!((tally.of("read", 0), tally.of("append", 10)), (1, 1));
-        let payloads = [tally.of("payload", 0), tally.of("payload", 1)];
-        assert_eq!(payloads, [3, m as u64]);
+        fill_log(Shape::edition_1(5, m), 1);
+        // The last slot has the last index.
+        fill_log(Shape::edition_2(5, m), LAST_INDEX - (m as u32 - 1));
     }
+}
+
+fn fill_log(shape: Shape, first: u32) {
+    let m = shape.m;
+    let mut rng = case_rng(3, m as u64);
+    let mut calls = ImageCalls {
+        shape,
+        replica: 1 + m % 5,
+        image: vec![0; image_len(shape)],
+        first,
+        epochs: m,
+        verdicts: m,
+        epoch: 0,
+        payload: Vec::new(),
+    };
+    let format = agree(&mut rng, &calls.format());
+    calls.image.copy_from_slice(format.bytes("image"));
+    for expected in 1..=m {
+        calls.epoch += rng.below(3) as u32 + u32::from(expected == 1);
+        calls.payload = vec![b'7'; rng.below(201)];
+        let mut tally = Tally::default();
+        compare_read(&mut rng, &calls, &mut tally);
+        assert_eq!(tally.of("read", 0), 1);
+        let append = agree(&mut rng, &calls.append());
+        assert_eq!(append.number("slot"), expected as u64);
+        calls.image.copy_from_slice(append.bytes("image"));
+    }
+    let mut tally = Tally::default();
+    compare(&mut rng, &calls, &mut tally);
+    assert_eq!((tally.of("read", 0), tally.of("append", 10)), (1, 1));
+    let payloads = [tally.of("payload", 0), tally.of("payload", 1)];
+    assert_eq!(payloads, [3, m as u64]);
 }
 
 /// An empty payload stands at its offset.
 #[test]
 fn an_empty_payload() {
     let calls = ImageCalls {
+        shape: Shape::edition_1(3, 1),
         replica: 1,
-        n: 3,
-        m: 1,
+        first: 1,
         image: b"rope  1  1  3  1  607126397\n          7          1  551224041\n          7          1   0  768541561\n                                                                                                                                                                                                          ".to_vec(),
         epochs: 1,
         verdicts: 1,

@@ -33,9 +33,10 @@ fn read_agrees() {
     use harness::compare::compare;
     use harness::side::{MODEL, PROVED};
     let call = Call::Read {
-        replica: 1,
         n: 3,
         m: 1,
+        edition: 1,
+        replica: 1,
         epochs: 1,
         verdicts: 1,
         image: [

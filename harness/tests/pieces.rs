@@ -4,11 +4,12 @@
 use harness::call::Call;
 use harness::compare::{agree, Answer, Outcome};
 use harness::comparisons::{pieces, ENOUGH};
+use harness::generate::damage::header_of;
 use harness::generate::piece_calls::WIDEST;
 use harness::generate::pieces::{payload_of, some_word, spoil};
 use harness::generate::Rng;
 use harness::model::*;
-use harness::proved::{self, Column, Entry, Record, Written};
+use harness::proved::{Column, Entry, Header, Record, Written};
 
 /// `harness compare` makes as many as are asked for.
 const CHECKSUMS: u64 = 100_000;
@@ -111,23 +112,75 @@ fn headers() {
     pieces::headers(6, HEADERS);
 }
 
+/// The first index of a header that is good.
+fn judge_header(rng: &mut Rng, header: &[u8], shape: Shape, replica: usize) -> Option<u64> {
+    let Shape { n, m, edition } = shape;
+    let header = header.to_vec();
+    let call = Call::JudgeHeader {
+        header,
+        n,
+        m,
+        edition,
+        replica,
+    };
+    let judged = agree(rng, &call);
+    (judged.answer == Answer::Header(Header::Good)).then(|| judged.number("first"))
+}
+
 /// A header is its own for no other numbers, and with no byte changed.
 #[test]
 fn headers_of_other_numbers() {
+    let mut rng = Rng::new(16);
     for n in MIN_REPLICAS..=MAX_REPLICAS {
-        for replica in 1..=n {
-            for m in [1, 2, 9, 10, 63, 64] {
-                let header = write_header(replica, n, m);
-                assert!(proved::is_header(&header, replica, n, m));
-                assert!(!proved::is_header(&header, replica + 1, n, m));
-                assert!(!proved::is_header(&header, replica, n + 1, m));
-                assert!(!proved::is_header(&header, replica, n, m + 1));
-                for at in 0..header.len() {
-                    let mut changed = header;
-                    changed[at] ^= 1;
-                    assert!(!proved::is_header(&changed, replica, n, m));
+        for m in [1, 2, 9, 10, 63, 64] {
+            let (one, two) = (Shape::edition_1(n, m), Shape::edition_2(n, m));
+            let highest = LAST_INDEX - (m as u32 - 1);
+            for (shape, first) in [(one, 1), (two, 1), (two, 7), (two, highest)] {
+                for replica in 1..=n {
+                    compare_header(&mut rng, shape, replica, first);
                 }
             }
+        }
+    }
+}
+
+fn compare_header(rng: &mut Rng, shape: Shape, replica: usize, first: u32) {
+    let Shape { n, m, edition } = shape;
+    let header = write_header(shape, replica, first);
+    let found = judge_header(rng, &header, shape, replica);
+    assert_eq!(found, Some(first.into()));
+    assert_eq!(judge_header(rng, &header, shape, replica + 1), None);
+    for other in [
+        Shape { n: n + 1, ..shape },
+        Shape { m: m + 1, ..shape },
+        Shape {
+            edition: 3 - edition,
+            ..shape
+        },
+    ] {
+        assert_eq!(judge_header(rng, &header, other, replica), None);
+    }
+    for at in 0..header.len() {
+        let mut changed = header.clone();
+        changed[at] ^= 1;
+        assert_eq!(judge_header(rng, &changed, shape, replica), None);
+    }
+}
+
+/// Its checksum is right, and no log of m slots may begin there.
+#[test]
+fn headers_of_improper_first_indexes() {
+    let mut rng = Rng::new(17);
+    for m in [1, 2, 63, 64] {
+        let shape = Shape::edition_2(3, m);
+        let highest = u64::from(LAST_INDEX) - (m as u64 - 1);
+        for first in [1, highest] {
+            let header = header_of(shape, 1, first);
+            assert_eq!(judge_header(&mut rng, &header, shape, 1), Some(first));
+        }
+        for first in [0, highest + 1, 1 << 32, (1 << 32) + 1, 99_999_999_999] {
+            let header = header_of(shape, 1, first);
+            assert_eq!(judge_header(&mut rng, &header, shape, 1), None, "{first}");
         }
     }
 }

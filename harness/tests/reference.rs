@@ -52,12 +52,11 @@ fn planned(
     leader: usize,
     present: u32,
 ) -> (Result<Answer, Refusal>, Vec<u8>, Vec<ReplicaRow>) {
-    let mut bytes = vec![0xee; cluster.m];
-    let mut rows = vec![ReplicaRow::default(); cluster.n];
+    let mut bytes = vec![0xee; cluster.shape.m];
+    let mut rows = vec![ReplicaRow::default(); cluster.shape.n];
     let answer = on.plan(
         &cluster.bytes,
-        cluster.n,
-        cluster.m,
+        cluster.shape,
         leader,
         present,
         &mut bytes,
@@ -68,16 +67,16 @@ fn planned(
 
 /// Reads replica 1 and answers length, epochs and verdicts.
 fn read_first(on: Code, cluster: &Cluster) -> Result<(usize, Vec<u32>, Vec<u8>), Refusal> {
-    let mut epochs = vec![7; cluster.m];
-    let mut verdicts = vec![7; cluster.m];
-    let length = on.read(
+    let mut epochs = vec![7; cluster.shape.m];
+    let mut verdicts = vec![7; cluster.shape.m];
+    let (length, first) = on.read(
         cluster.image(1),
+        cluster.shape,
         1,
-        cluster.n,
-        cluster.m,
         &mut epochs,
         &mut verdicts,
     )?;
+    assert_eq!(first, 1);
     Ok((length, epochs, verdicts))
 }
 
@@ -113,19 +112,26 @@ fn record_of_epoch_1_index_1(on: Code) {
 }
 
 fn image_lengths(on: Code) {
-    assert_eq!(image_len(1), 302);
-    assert_eq!(image_len(64), 17_564);
+    assert_eq!(image_len(Shape::edition_1(3, 1)), 302);
+    assert_eq!(image_len(Shape::edition_1(7, 64)), 17_564);
     let mut one = vec![0; 302];
-    assert_eq!(on.fresh_image(&mut one, 1, 3, 1), Ok(()));
+    assert_eq!(
+        on.fresh_image(&mut one, Shape::edition_1(3, 1), 1, 1),
+        Ok(())
+    );
     let mut most = vec![0; 17_564];
-    assert_eq!(on.fresh_image(&mut most, 7, 7, 64), Ok(()));
+    assert_eq!(
+        on.fresh_image(&mut most, Shape::edition_1(7, 64), 7, 1),
+        Ok(())
+    );
 }
 
 fn slot_counts_0_and_65_are_refused(on: Code) {
-    let mut image = vec![1; image_len(65)];
+    let mut image = vec![1; image_len(Shape::edition_1(3, 65))];
     for m in [0, 65, usize::MAX] {
         assert_eq!(
-            on.fresh_image(&mut image, 1, 3, m).map_err(Refusal::number),
+            on.fresh_image(&mut image, Shape::edition_1(3, m), 1, 1)
+                .map_err(Refusal::number),
             Err(1)
         );
     }
@@ -136,13 +142,22 @@ fn payload_of_200_stored_and_201_refused(on: Code) {
     let mut cluster = Cluster::fresh(3, 2);
     let bytes = [0x80; 201];
     assert_eq!(
-        on.append(cluster.image_mut(1), 1, 3, 2, 1, &bytes[..200]),
+        on.append(
+            cluster.image_mut(1),
+            Shape::edition_1(3, 2),
+            1,
+            1,
+            &bytes[..200]
+        ),
         Ok(1)
     );
-    assert_eq!(on.payload(cluster.image(1), 1, 3, 2, 1), &bytes[..200]);
+    assert_eq!(
+        on.payload(cluster.image(1), cluster.shape, 1, 1),
+        &bytes[..200]
+    );
     let before = cluster.clone();
     assert_eq!(
-        on.append(cluster.image_mut(1), 1, 3, 2, 1, &bytes),
+        on.append(cluster.image_mut(1), Shape::edition_1(3, 2), 1, 1, &bytes),
         Err(Refusal::AppendPayload)
     );
     assert_eq!(cluster, before);
@@ -150,16 +165,28 @@ fn payload_of_200_stored_and_201_refused(on: Code) {
 
 fn append_at_the_last_epoch_and_one_lower(on: Code) {
     let mut cluster = Cluster::fresh(3, 3);
-    assert_eq!(on.append(cluster.image_mut(1), 1, 3, 3, 5, b"x"), Ok(1));
-    assert_eq!(on.append(cluster.image_mut(1), 1, 3, 3, 5, b"y"), Ok(2));
     assert_eq!(
-        on.append(cluster.image_mut(1), 1, 3, 3, 4, b"z")
+        on.append(cluster.image_mut(1), Shape::edition_1(3, 3), 1, 5, b"x"),
+        Ok(1)
+    );
+    assert_eq!(
+        on.append(cluster.image_mut(1), Shape::edition_1(3, 3), 1, 5, b"y"),
+        Ok(2)
+    );
+    assert_eq!(
+        on.append(cluster.image_mut(1), Shape::edition_1(3, 3), 1, 4, b"z")
             .map_err(Refusal::number),
         Err(8)
     );
     // The largest epoch is an epoch like any other.
     assert_eq!(
-        on.append(cluster.image_mut(1), 1, 3, 3, u32::MAX, b""),
+        on.append(
+            cluster.image_mut(1),
+            Shape::edition_1(3, 3),
+            1,
+            u32::MAX,
+            b""
+        ),
         Ok(3)
     );
 }
@@ -341,9 +368,9 @@ fn every_set_of_replies(on: Code) {
 
 /// How a run of this budget ends that makes no store.
 fn end_without_stores(on: Code, cluster: &Cluster, budget: u64) -> RunEnd {
-    let (n, m) = (cluster.n, cluster.m);
     let mut bytes = cluster.bytes.clone();
-    let answer = on.run(&mut bytes, n, m, 1, 7, budget).unwrap();
+    let shape = cluster.shape;
+    let answer = on.run(&mut bytes, shape, 1, 7, budget).unwrap();
     assert_eq!((answer.stores, &bytes), (0, &cluster.bytes));
     answer.end
 }
@@ -409,7 +436,7 @@ fn printed_example_recovers(on: Code) {
         replica,
         slot,
         kind,
-    } = on.step(&mut cluster.bytes, 3, 2, 1, 7).unwrap()
+    } = on.step(&mut cluster.bytes, cluster.shape, 1, 7).unwrap()
     {
         stores.push((replica, slot, kind as u8));
     }
@@ -426,8 +453,14 @@ fn printed_example_recovers(on: Code) {
         ]
     );
     for replica in 1..=3 {
-        assert_eq!(on.payload(cluster.image(replica), replica, 3, 2, 1), b"one");
-        assert_eq!(on.payload(cluster.image(replica), replica, 3, 2, 2), b"two");
+        assert_eq!(
+            on.payload(cluster.image(replica), cluster.shape, replica, 1),
+            b"one"
+        );
+        assert_eq!(
+            on.payload(cluster.image(replica), cluster.shape, replica, 2),
+            b"two"
+        );
     }
 }
 
@@ -444,12 +477,13 @@ fn rows_of_the_printed_example(on: Code) {
 }
 
 fn header_bytes(on: Code) {
-    let header = on.write_header(2, 3, 64);
+    let shape = Shape::edition_1(3, 64);
+    let header = on.write_header(shape, 2, 1);
     assert_eq!(&header[..16], b"rope  1  2  3 64");
     let sum = on.checksum(&header[..16]).to_string();
     assert_eq!(&header[16..], format!("{sum:>11}\n").as_bytes());
-    assert!(on.header_is_good(&header, 2, 3, 64));
-    assert!(!on.header_is_good(&header, 1, 3, 64));
+    assert_eq!(on.judge_header(&header, shape, 2), Some(1));
+    assert_eq!(on.judge_header(&header, shape, 1), None);
 }
 
 fn entry_bytes(on: Code) {
@@ -555,7 +589,7 @@ mod ruled_out {
         assert_eq!((answer, bytes), (Ok(Answer::Waiting(1)), vec![3, 4, 5]));
         let before = cluster.clone();
         assert_eq!(
-            on.step(&mut cluster.bytes, 3, 3, 1, 7),
+            on.step(&mut cluster.bytes, cluster.shape, 1, 7),
             Ok(StepAnswer::Waiting(1))
         );
         assert_eq!(cluster, before);

@@ -33,12 +33,15 @@ fn read_number(
 ) -> Result<usize, u8> {
     let mut epochs = vec![77; lengths.0];
     let mut verdicts = vec![77; lengths.1];
-    let answer = on.read(image, replica, n, m, &mut epochs, &mut verdicts);
+    let shape = Shape::edition_1(n, m);
+    let answer = on.read(image, shape, replica, &mut epochs, &mut verdicts);
     if answer.is_err() {
         assert!(epochs.iter().all(|&epoch| epoch == 77));
         assert!(verdicts.iter().all(|&verdict| verdict == 77));
     }
-    answer.map_err(Refusal::number)
+    let (length, first) = answer.map_err(Refusal::number)?;
+    assert_eq!(first, 1);
+    Ok(length)
 }
 
 /// The refusal number shared by planner, step and run; none of them writes anything.
@@ -57,14 +60,15 @@ fn cluster_number(
         last_epoch: 7,
     };
     let mut rows = vec![row; n.min(100)];
+    let shape = Shape::edition_1(n, m);
     let planned = on
-        .plan(cluster, n, m, leader, present, &mut bytes, &mut rows)
+        .plan(cluster, shape, leader, present, &mut bytes, &mut rows)
         .err()?;
     assert!(bytes.iter().all(|&byte| byte == 77));
     assert!(rows.iter().all(|&other| other == row));
     let mut copy = cluster.to_vec();
-    assert_eq!(on.step(&mut copy, n, m, leader, present), Err(planned));
-    assert_eq!(on.run(&mut copy, n, m, leader, present, 9), Err(planned));
+    assert_eq!(on.step(&mut copy, shape, leader, present), Err(planned));
+    assert_eq!(on.run(&mut copy, shape, leader, present, 9), Err(planned));
     assert_eq!(copy, cluster);
     Some(planned.number())
 }
@@ -96,9 +100,11 @@ fn numbers_are_the_ones_of_the_table() {
         Refusal::Leader,
         Refusal::LentLength,
         Refusal::CommandLine,
+        Refusal::FirstIndex,
+        Refusal::FirstDiffers,
     ];
-    for (at, refusal) in all.into_iter().enumerate() {
-        assert_eq!(usize::from(refusal.number()), at + 1);
+    for (refusal, number) in all.into_iter().zip((1..=14).chain(20..=21)) {
+        assert_eq!(refusal.number(), number);
     }
 }
 
@@ -109,11 +115,14 @@ fn refusal_1(on: Code) {
         assert_eq!(cluster_number(on, &cluster.bytes, 4, m, 9, 99), Some(1));
         let mut image = cluster.image(1).to_vec();
         assert_eq!(
-            on.append(&mut image, 1, 3, m, 0, b"")
+            on.append(&mut image, Shape::edition_1(3, m), 1, 0, b"")
                 .map_err(Refusal::number),
             Err(1)
         );
-        assert_eq!(on.has_payload(&image, 1, 3, m, 1), Err(Refusal::SlotCount));
+        assert_eq!(
+            on.has_payload(&image, Shape::edition_1(3, m), 1, 1),
+            Err(Refusal::SlotCount)
+        );
         assert_eq!(image, cluster.image(1));
     }
 }
@@ -136,7 +145,7 @@ fn refusal_2(on: Code) {
         );
         let mut image = cluster.image(1).to_vec();
         assert_eq!(
-            on.fresh_image(&mut image, replica, 3, 2)
+            on.fresh_image(&mut image, Shape::edition_1(3, 2), replica, 1)
                 .map_err(Refusal::number),
             Err(2)
         );
@@ -157,7 +166,8 @@ fn refusal_3(on: Code) {
     long.push(b' ');
     assert_eq!(cluster_number(on, &long, 3, 2, 0, 99), Some(3));
     assert_eq!(
-        on.fresh_image(&mut long, 1, 3, 2).map_err(Refusal::number),
+        on.fresh_image(&mut long, Shape::edition_1(3, 2), 1, 1)
+            .map_err(Refusal::number),
         Err(3)
     );
     assert_eq!(cluster_number(on, &cluster.bytes, 5, 2, 1, 7), Some(3));
@@ -212,8 +222,14 @@ fn refusal_7(on: Code) {
 fn refusals_8_9_and_10(on: Code) {
     let mut cluster = small();
     let mut number = |epoch, payload: &[u8]| {
-        on.append(cluster.image_mut(1), 1, 3, 2, epoch, payload)
-            .map_err(Refusal::number)
+        on.append(
+            cluster.image_mut(1),
+            Shape::edition_1(3, 2),
+            1,
+            epoch,
+            payload,
+        )
+        .map_err(Refusal::number)
     };
     assert_eq!(number(0, b""), Err(8));
     assert_eq!(number(3, &[0; 201]), Err(8));
@@ -257,7 +273,7 @@ fn refusal_13(on: Code) {
     for (m, n) in [(1, 3), (3, 3), (2, 2), (2, 4), (0, 0)] {
         let mut bytes = vec![77; m];
         let mut rows = vec![ReplicaRow::default(); n];
-        let answer = on.plan(&cluster.bytes, 3, 2, 1, 7, &mut bytes, &mut rows);
+        let answer = on.plan(&cluster.bytes, cluster.shape, 1, 7, &mut bytes, &mut rows);
         assert_eq!(answer, Err(Refusal::LentLength));
         assert!(bytes.iter().all(|&byte| byte == 77));
         assert!(rows.iter().all(|&row| row == ReplicaRow::default()));

@@ -5,10 +5,10 @@ use std::fs;
 use std::path::{Path, PathBuf};
 use std::time::Duration;
 
-use harness::generate::{
-    agreed_case, arbitrary_case, example_input, noise_report_input, Case, Cluster,
-};
-use harness::model::{cluster_len, report};
+use harness::generate::arbitrary::arbitrary_case_of;
+use harness::generate::history::agreed_case_of;
+use harness::generate::{example_input, noise_report_input, some_shape_of, Case, Cluster};
+use harness::model::{cluster_len, report, Shape};
 use harness::program::{self, report_of_pieces};
 use harness::property::case_rng;
 
@@ -39,11 +39,9 @@ fn input_of(command: &[u8], cluster: &[u8]) -> Vec<u8> {
 }
 
 fn command_of(case: &Case) -> Vec<u8> {
-    format!(
-        "{:>3}{:>3}{:>3}{:>4}\n",
-        case.n, case.m, case.leader, case.present
-    )
-    .into_bytes()
+    let Shape { n, m, .. } = case.shape;
+    let (leader, present) = (case.leader, case.present);
+    format!("{n:>3}{m:>3}{leader:>3}{present:>4}\n").into_bytes()
 }
 
 /// A used slot that one replica holds and one that all hold.
@@ -161,7 +159,7 @@ fn which_refusal_comes_first() {
 fn lengths_around_the_largest_input() {
     for (n, m) in [(3, 64), (4, 59), (5, 47), (6, 39), (7, 34), (7, 35)] {
         let cluster = Cluster::fresh(n, m).bytes;
-        assert_eq!(cluster.len(), cluster_len(n, m));
+        assert_eq!(cluster.len(), cluster_len(Shape::edition_1(n, m)));
         let command = format!("{n:>3}{m:>3}  1    \n").into_bytes();
         let mut input = input_of(&command, &cluster);
         assert_report("as long as it should be", &input);
@@ -213,7 +211,9 @@ fn generated_clusters() {
     let mut kinds = BTreeSet::new();
     for number in 0..1500 {
         let mut rng = case_rng(23, number);
-        for case in [agreed_case(&mut rng).case, arbitrary_case(&mut rng)] {
+        let shape = some_shape_of(&mut rng, 1);
+        let agreed = agreed_case_of(&mut rng, shape).case;
+        for case in [agreed, arbitrary_case_of(&mut rng, shape)] {
             let mut command = command_of(&case);
             let input = input_of(&command, &case.cluster);
             note_kinds(
@@ -232,6 +232,17 @@ fn generated_clusters() {
         .chain(["status 0".to_string(), "status 1".to_string()])
     {
         assert!(kinds.contains(&kind), "no {kind} among {kinds:?}");
+    }
+}
+
+/// The program stays with edition 1: a cluster of edition 2 has another length.
+#[test]
+fn clusters_of_edition_2() {
+    for (n, m) in [(3, 1), (3, 2), (7, 5)] {
+        let cluster = Cluster::fresh_from(n, m, 1).bytes;
+        let command = format!("{n:>3}{m:>3}  1   7\n").into_bytes();
+        let output = assert_report("edition 2", &input_of(&command, &cluster));
+        assert_eq!(output, "refused   3\n");
     }
 }
 

@@ -1,12 +1,12 @@
-//! All agreed clusters of three replicas and one slot, and those of four that are of fewer kinds, in all
-//! states of their recovery.
+//! All agreed clusters of three replicas and one slot, those of four that are of fewer kinds, and those of
+//! edition 2 whose logs begin at 3 or at 4, in all states of their recovery.
 
 #![deny(dead_code)]
 
 use harness::code::Code;
-use harness::generate::{Small, FOUR, THREE};
+use harness::generate::{Small, FOUR, FROM_THREE, THREE};
 use harness::on_both_sides;
-use harness::property::check_small;
+use harness::property::{check_small, Coverage};
 use std::ops::Range;
 
 on_both_sides! {
@@ -14,9 +14,10 @@ on_both_sides! {
     second_half_of_three,
     first_half_of_four,
     second_half_of_four,
+    from_index_3,
 }
 
-fn check(on: Code, small: &Small, numbers: Range<usize>) {
+fn check(on: Code, small: &Small, numbers: Range<usize>) -> Coverage {
     let coverage = check_small(on, small, numbers).unwrap_or_else(|what| panic!("{what}"));
     println!("{coverage}");
     for count in [
@@ -31,6 +32,7 @@ fn check(on: Code, small: &Small, numbers: Range<usize>) {
     ] {
         assert!(count > 0, "{coverage}");
     }
+    coverage
 }
 
 fn first_half_of_three(on: Code) {
@@ -47,4 +49,9 @@ fn first_half_of_four(on: Code) {
 
 fn second_half_of_four(on: Code) {
     check(on, &FOUR, FOUR.cases() / 2..FOUR.cases());
+}
+
+fn from_index_3(on: Code) {
+    let coverage = check(on, &FROM_THREE, 0..FROM_THREE.cases());
+    assert!(coverage.edition_2 == coverage.committed && coverage.first_differs > 0);
 }

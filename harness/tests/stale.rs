@@ -22,13 +22,12 @@ on_both_sides! {
 }
 
 fn verdicts(on: Code, cluster: &Cluster, replica: usize) -> Vec<u8> {
-    let (n, m) = (cluster.n, cluster.m);
+    let m = cluster.shape.m;
     let (mut epochs, mut verdicts) = (vec![9; m], vec![9; m]);
     on.read(
         cluster.image(replica),
+        cluster.shape,
         replica,
-        n,
-        m,
         &mut epochs,
         &mut verdicts,
     )
@@ -84,25 +83,31 @@ fn a_stale_slot_has_no_payload(on: Code) {
     cluster.put_record(1, 1, 2);
     cluster.put_entry(1, 1, 1, b"old");
     assert_eq!(verdicts(on, &cluster, 1), [6, 0]);
-    assert_eq!(on.has_payload(cluster.image(1), 1, 3, 2, 1), Ok(false));
-    assert_eq!(on.payload(cluster.image(1), 1, 3, 2, 1), b"");
+    assert_eq!(
+        on.has_payload(cluster.image(1), cluster.shape, 1, 1),
+        Ok(false)
+    );
+    assert_eq!(on.payload(cluster.image(1), cluster.shape, 1, 1), b"");
 }
 
 fn an_append_behind_a_stale_slot_leaves_it_stale(on: Code) {
     let mut cluster = Cluster::fresh(3, 2);
     cluster.put_record(1, 1, 2);
     cluster.put_entry(1, 1, 1, b"old");
-    assert_eq!(on.append(cluster.image_mut(1), 1, 3, 2, 2, b"new"), Ok(2));
+    assert_eq!(
+        on.append(cluster.image_mut(1), Shape::edition_1(3, 2), 1, 2, b"new"),
+        Ok(2)
+    );
     assert_eq!(verdicts(on, &cluster, 1), [6, 1]);
 }
 
 /// Every stale entry of a cluster made noise, and where they were.
 fn without_stale(on: Code, case: &Case) -> (Cluster, Vec<(usize, usize)>) {
-    let (n, m, bytes) = (case.n, case.m, case.cluster.clone());
-    let mut cluster = Cluster { n, m, bytes };
+    let Shape { n, m, .. } = case.shape;
+    let mut cluster = Cluster::of_bytes(case.shape, case.cluster.clone());
     let mut stale = Vec::new();
     for replica in 1..=n {
-        let Ok(log) = on.judge_image(cluster.image(replica), replica, n, m) else {
+        let Ok(log) = on.judge_image(cluster.image(replica), cluster.shape, replica) else {
             continue;
         };
         for slot in (1..=m).filter(|&slot| log.verdict(slot) == Verdict::Stale) {
@@ -116,12 +121,10 @@ fn without_stale(on: Code, case: &Case) -> (Cluster, Vec<(usize, usize)>) {
 type Planned = (Result<Answer, Refusal>, Vec<u8>, Vec<ReplicaRow>);
 
 fn planned(on: Code, case: &Case, cluster: &[u8]) -> Planned {
-    let mut plan = vec![99; case.m];
-    let mut rows = vec![ReplicaRow::default(); case.n];
+    let mut plan = vec![99; case.shape.m];
+    let mut rows = vec![ReplicaRow::default(); case.shape.n];
     let (leader, present) = (case.leader, case.present);
-    let answer = on.plan(
-        cluster, case.n, case.m, leader, present, &mut plan, &mut rows,
-    );
+    let answer = on.plan(cluster, case.shape, leader, present, &mut plan, &mut rows);
     (answer, plan, rows)
 }
 
@@ -135,7 +138,7 @@ fn steps(
 ) -> Vec<Result<StepAnswer, Refusal>> {
     let mut answers = Vec::new();
     loop {
-        let answer = on.step(cluster, case.n, case.m, case.leader, case.present);
+        let answer = on.step(cluster, case.shape, case.leader, case.present);
         let Ok(StepAnswer::Store {
             replica,
             slot,
@@ -174,7 +177,8 @@ fn a_stale_slot_is_planned_and_mended_like_noise(on: Code) {
         mended += usize::from(cluster == noise.bytes);
         // What differs still is the changed byte of an entry that no store has reached.
         for &(replica, slot) in &stale {
-            let at = image_offset(case.m, replica) + entry_offset(case.m, slot) + ENTRY_LEN - 1;
+            let entry = image_offset(case.shape, replica) + entry_offset(case.shape, slot);
+            let at = entry + ENTRY_LEN - 1;
             cluster[at] = noise.bytes[at];
         }
         assert_eq!(cluster, noise.bytes);
@@ -185,26 +189,16 @@ fn a_stale_slot_is_planned_and_mended_like_noise(on: Code) {
 fn the_sample_is_stale_and_mended(on: Code) {
     let all = samples();
     let sample = all.iter().find(|sample| sample.name == "stale-entry");
-    let (n, m) = (3, 4);
-    let mut bytes = sample.expect("it is there").input[14..].to_vec();
-    let cluster = Cluster {
-        n,
-        m,
-        bytes: bytes.clone(),
-    };
+    let bytes = sample.expect("it is there").input[14..].to_vec();
+    let mut cluster = Cluster::of_bytes(Shape::edition_1(3, 4), bytes);
     assert_eq!(verdicts(on, &cluster, 1), [1, 6, 1, 0]);
     let answer = on
-        .run(&mut bytes, n, m, 1, 7, 100)
+        .run(&mut cluster.bytes, cluster.shape, 1, 7, 100)
         .expect("it is not refused");
     assert_eq!((answer.end, answer.stores), (RunEnd::Done, 1));
-    for replica in 1..=n {
-        let cluster = Cluster {
-            n,
-            m,
-            bytes: bytes.clone(),
-        };
+    for replica in 1..=3 {
         assert_eq!(verdicts(on, &cluster, replica), [1, 1, 1, 0]);
-        let payload = on.payload(cluster.image(replica), replica, n, m, 2);
+        let payload = on.payload(cluster.image(replica), cluster.shape, replica, 2);
         assert_eq!(payload, b"metre 1207, no signal");
     }
 }

@@ -26,13 +26,13 @@ on_both_sides! {
     a_record_store_is_all_or_nothing,
     an_epoch_is_not_used_again_after_a_truncation,
     only_recovery_changes_the_cluster_once_it_has_begun,
+    a_damaged_header_is_a_refused_one,
 }
 
 /// Three replicas of one slot: all present, replica 1 leads, epoch 1 committed "kept".
 fn case(cluster: &Cluster) -> Case {
     Case {
-        n: 3,
-        m: 1,
+        shape: cluster.shape,
         leader: 1,
         present: 7,
         cluster: cluster.bytes.clone(),
@@ -40,19 +40,27 @@ fn case(cluster: &Cluster) -> Case {
 }
 
 fn committed(holders: u32) -> [Committed; 1] {
+    committed_at(1, holders)
+}
+
+fn committed_at(index: u32, holders: u32) -> [Committed; 1] {
     [Committed {
         slot: 1,
+        index,
         epoch: 1,
         payload: b"kept".to_vec(),
         holders,
+        elsewhere: 0,
     }]
 }
 
 /// The first conclusion that fails, if any does.
 fn harm(on: Code, cluster: &Cluster, holders: u32) -> Option<String> {
-    let case = case(cluster);
-    let committed = committed(holders);
-    let start = Start::new(on, &case, &committed);
+    harm_of(on, &case(cluster), &committed(holders))
+}
+
+fn harm_of(on: Code, case: &Case, committed: &[Committed]) -> Option<String> {
+    let start = Start::new(on, case, committed);
     let mut coverage = Coverage::default();
     start
         .check_first(&mut coverage)
@@ -201,4 +209,32 @@ fn only_recovery_changes_the_cluster_once_it_has_begun(on: Code) {
     assert!(start
         .check_state(&damaged.bytes, &mut Coverage::default())
         .is_err());
+}
+
+/// The slot has index 3. Beside the leader's record, which is as it was, stands an entry that is intact for
+/// index 4; replica 3 is away.
+fn a_damaged_header_is_a_refused_one(on: Code) {
+    let mut cluster = Cluster::fresh_from(3, 1, 3);
+    for replica in [1, 2] {
+        cluster.put(replica, 1, 1, b"kept");
+    }
+    let entry = on.write_entry(2, 4, b"astray");
+    cluster.entry_mut(1, 1).copy_from_slice(&entry);
+    let committed = committed_at(3, 0b011);
+    let harm_among = |cluster: &Cluster, present| {
+        let case = Case {
+            present,
+            ..case(cluster)
+        };
+        harm_of(on, &case, &committed)
+    };
+    assert_eq!(harm_among(&cluster, 0b011), None);
+    assert_eq!(harm_among(&cluster, 0b001), None);
+    for (first, harmed) in [(0, false), (4, true)] {
+        let header = on.write_header(cluster.shape, 1, first);
+        cluster.header_mut(1).copy_from_slice(&header);
+        // Among others the leader is refused by 12 or 21.
+        assert_eq!(harm_among(&cluster, 0b011), None);
+        assert_eq!(harm_among(&cluster, 0b001).is_some(), harmed);
+    }
 }

@@ -32,13 +32,12 @@ on_both_sides! {
 }
 
 fn verdicts(on: Code, cluster: &Cluster, replica: usize) -> Result<Vec<u8>, u8> {
-    let mut epochs = vec![0; cluster.m];
-    let mut verdicts = vec![0; cluster.m];
+    let mut epochs = vec![0; cluster.shape.m];
+    let mut verdicts = vec![0; cluster.shape.m];
     on.read(
         cluster.image(replica),
+        cluster.shape,
         replica,
-        cluster.n,
-        cluster.m,
         &mut epochs,
         &mut verdicts,
     )
@@ -47,21 +46,28 @@ fn verdicts(on: Code, cluster: &Cluster, replica: usize) -> Result<Vec<u8>, u8> 
 }
 
 fn planned(on: Code, cluster: &Cluster, leader: usize, present: u32) -> (Answer, Vec<u8>) {
-    let mut bytes = vec![0; cluster.m];
-    let mut rows = vec![ReplicaRow::default(); cluster.n];
-    let (n, m) = (cluster.n, cluster.m);
-    let answer = on.plan(&cluster.bytes, n, m, leader, present, &mut bytes, &mut rows);
+    let mut bytes = vec![0; cluster.shape.m];
+    let mut rows = vec![ReplicaRow::default(); cluster.shape.n];
+    let answer = on.plan(
+        &cluster.bytes,
+        cluster.shape,
+        leader,
+        present,
+        &mut bytes,
+        &mut rows,
+    );
     (answer.unwrap(), bytes)
 }
 
 fn stores(on: Code, cluster: &mut Cluster, leader: usize, present: u32) -> Vec<(usize, usize, u8)> {
-    let (n, m) = (cluster.n, cluster.m);
     let mut made = Vec::new();
     while let StepAnswer::Store {
         replica,
         slot,
         kind,
-    } = on.step(&mut cluster.bytes, n, m, leader, present).unwrap()
+    } = on
+        .step(&mut cluster.bytes, cluster.shape, leader, present)
+        .unwrap()
     {
         made.push((replica, slot, kind as u8));
     }
@@ -92,13 +98,13 @@ fn a_wrong_lent_buffer_is_found_last(on: Code) {
     let mut cluster = Cluster::fresh(3, 2);
     cluster.put(1, 1, 5, b"");
     cluster.put(1, 2, 4, b"");
-    let answer = on.read(cluster.image(1), 1, 3, 2, &mut [], &mut []);
+    let answer = on.read(cluster.image(1), cluster.shape, 1, &mut [], &mut []);
     assert_eq!(answer, Err(Refusal::EpochFalls));
-    let answer = on.plan(&cluster.bytes, 3, 2, 2, 15, &mut [], &mut []);
+    let answer = on.plan(&cluster.bytes, cluster.shape, 2, 15, &mut [], &mut []);
     assert_eq!(answer, Err(Refusal::Present));
-    let answer = on.plan(&cluster.bytes, 3, 2, 1, 7, &mut [], &mut []);
+    let answer = on.plan(&cluster.bytes, cluster.shape, 1, 7, &mut [], &mut []);
     assert_eq!(answer, Err(Refusal::Leader));
-    let answer = on.plan(&cluster.bytes, 3, 2, 2, 7, &mut [], &mut []);
+    let answer = on.plan(&cluster.bytes, cluster.shape, 2, 7, &mut [], &mut []);
     assert_eq!(answer, Err(Refusal::LentLength));
 }
 
@@ -112,7 +118,7 @@ fn an_old_entry_of_the_right_epoch_is_overwritten(on: Code) {
         stores(on, &mut cluster, 1, 7),
         [(2, 1, 1), (2, 1, 2), (3, 1, 2)]
     );
-    assert_eq!(on.payload(cluster.image(2), 2, 3, 1, 1), b"new");
+    assert_eq!(on.payload(cluster.image(2), cluster.shape, 2, 1), b"new");
 }
 
 fn the_last_used_slot_is_ambiguous_whatever_stands_behind_it(on: Code) {
@@ -142,15 +148,18 @@ fn an_empty_payload_is_a_payload(on: Code) {
     cluster.put_entry(1, 2, 1, b"stale");
     cluster.put_entry(1, 3, 2, b"behind");
     let image = cluster.image(1);
-    let has = |slot| on.has_payload(image, 1, 3, 3, slot);
+    let has = |slot| on.has_payload(image, Shape::edition_1(3, 3), 1, slot);
     assert_eq!(has(1), Ok(true));
-    assert_eq!(on.payload(image, 1, 3, 3, 1), b"");
+    assert_eq!(on.payload(image, Shape::edition_1(3, 3), 1, 1), b"");
     for slot in [0, 2, 3, 4, usize::MAX] {
         assert_eq!(has(slot), Ok(false), "{slot}");
-        assert_eq!(on.payload(image, 1, 3, 3, slot), b"");
+        assert_eq!(on.payload(image, Shape::edition_1(3, 3), 1, slot), b"");
     }
-    assert_eq!(on.has_payload(image, 2, 3, 3, 0), Err(Refusal::Header));
-    assert_eq!(on.payload(image, 2, 3, 3, 1), b"");
+    assert_eq!(
+        on.has_payload(image, Shape::edition_1(3, 3), 2, 0),
+        Err(Refusal::Header)
+    );
+    assert_eq!(on.payload(image, Shape::edition_1(3, 3), 2, 1), b"");
 }
 
 fn the_payload_is_part_of_the_image(on: Code) {
@@ -159,9 +168,9 @@ fn the_payload_is_part_of_the_image(on: Code) {
     cluster.put(1, 2, 1, b"payload");
     cluster.record_mut(1, 2).fill(1);
     let image = cluster.image(1);
-    let part = on.payload(image, 1, 3, 2, 2);
+    let part = on.payload(image, Shape::edition_1(3, 2), 1, 2);
     assert_eq!(part, b"payload");
-    let start = entry_offset(2, 2) + 26;
+    let start = entry_offset(cluster.shape, 2) + 26;
     assert_eq!(part.as_ptr(), image[start..].as_ptr());
 }
 
@@ -191,13 +200,13 @@ fn a_record_torn_between_two_sectors(on: Code) {
         for before in 1..=slot {
             whole.put(1, before, 1_234_567_890, b"x");
         }
-        let split = 512 - record_offset(slot) % 512;
+        let split = 512 - record_offset(whole.shape, slot) % 512;
         let (record, blank) = (whole.record(1, slot).to_vec(), on.blank_record());
         for torn in [
             [&record[..split], &blank[split..]].concat(),
             [&blank[..split], &record[split..]].concat(),
         ] {
-            assert_eq!(on.judge_record(&torn, slot), RecordState::Bad);
+            assert_eq!(on.judge_record(&torn, slot as u32), RecordState::Bad);
             let mut cluster = whole.clone();
             cluster.record_mut(1, slot).copy_from_slice(&torn);
             let read = verdicts(on, &cluster, 1).unwrap();
@@ -213,16 +222,19 @@ fn append_compares_with_the_last_slot_even_if_it_is_faulty(on: Code) {
     cluster.put(1, 1, 5, b"x");
     cluster.entry_mut(1, 1).fill(0);
     assert_eq!(
-        on.append(cluster.image_mut(1), 1, 3, 2, 4, b""),
+        on.append(cluster.image_mut(1), Shape::edition_1(3, 2), 1, 4, b""),
         Err(Refusal::AppendEpoch)
     );
     cluster.put_entry(1, 1, 6, b"x");
     cluster.record_mut(1, 1).fill(0);
     assert_eq!(
-        on.append(cluster.image_mut(1), 1, 3, 2, 5, b""),
+        on.append(cluster.image_mut(1), Shape::edition_1(3, 2), 1, 5, b""),
         Err(Refusal::AppendEpoch)
     );
-    assert_eq!(on.append(cluster.image_mut(1), 1, 3, 2, 6, b""), Ok(2));
+    assert_eq!(
+        on.append(cluster.image_mut(1), Shape::edition_1(3, 2), 1, 6, b""),
+        Ok(2)
+    );
 }
 
 fn plan_bytes_show_everything_while_waiting(on: Code) {
@@ -296,10 +308,12 @@ fn a_budget_of_exactly_the_outstanding_stores_ends_done(on: Code) {
     cluster.put(1, 1, 1, b"x");
     for (budget, end) in [(3, RunEnd::Spent), (4, RunEnd::Done), (5, RunEnd::Done)] {
         let mut copy = cluster.clone();
-        let answer = on.run(&mut copy.bytes, 3, 1, 1, 7, budget).unwrap();
+        let answer = on.run(&mut copy.bytes, copy.shape, 1, 7, budget).unwrap();
         assert_eq!((answer.end, answer.stores), (end, budget.min(4)));
     }
-    let answer = on.run(&mut cluster.bytes, 3, 1, 1, 7, u64::MAX).unwrap();
+    let answer = on
+        .run(&mut cluster.bytes, cluster.shape, 1, 7, u64::MAX)
+        .unwrap();
     assert_eq!((answer.end, answer.stores), (RunEnd::Done, 4));
 }
 
@@ -376,7 +390,7 @@ fn the_most_stores_a_run_makes(on: Code) {
         }
         let present = (1 << n) - 1;
         let answer = on
-            .run(&mut cluster.bytes, n, m, 1, present, u64::MAX)
+            .run(&mut cluster.bytes, cluster.shape, 1, present, u64::MAX)
             .unwrap();
         assert_eq!(answer.end, RunEnd::Done);
         assert_eq!(answer.stores, (m * (3 * n - 2)) as u64);

@@ -1,7 +1,7 @@
 //! A cluster in memory, for the tests.
 #![allow(dead_code)]
 
-use ropelog::{append, format, Epoch, Geometry, Replica, ReplicaSet};
+use ropelog::{append, format, format_from, Epoch, Geometry, Replica, ReplicaSet};
 
 pub struct Cluster {
     pub geometry: Geometry,
@@ -20,6 +20,23 @@ impl Cluster {
             format(&mut bytes[geometry.image_range(replica)], geometry, replica).unwrap();
         }
         Cluster { geometry, bytes }
+    }
+
+    /// A cluster of edition 2 whose logs begin at this index.
+    pub fn fresh_from(n: usize, m: usize, first: u32) -> Cluster {
+        let geometry = Geometry::edition_2(n, m).unwrap();
+        let bytes = vec![0; geometry.cluster_len()];
+        let mut cluster = Cluster { geometry, bytes };
+        for number in 1..=n {
+            cluster.format_from(number, first);
+        }
+        cluster
+    }
+
+    /// Gives one replica a fresh image whose log begins at this index.
+    pub fn format_from(&mut self, number: usize, first: u32) {
+        let (geometry, replica) = (self.geometry, self.replica(number));
+        format_from(self.image_mut(number), geometry, replica, first).unwrap();
     }
 
     pub fn replica(&self, number: usize) -> Replica {

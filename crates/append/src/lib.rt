@@ -19,6 +19,7 @@ use locate::index_of;
 use locate::record_at;
 use record::Shape;
 use vet::call_refusal;
+use vet::format_refusal;
 use view::last_epoch;
 use view::view_image;
 use write::put_blank;
@@ -54,16 +55,16 @@ fn put_freshes(image: &mut [u8], shape: Shape)
     }
 }
 
-// Makes a fresh image in a buffer of its size.
-pub fn format_image(image: &mut [u8], shape: Shape, replica: usize) -> FormatAnswer
-    ensures answer { λ r. ⌜ formatNumbers r ≡ formatCallNumbers shape replica (length (now (image .entry))) ⌝ }
-    ensures image { λ _. ⌜ now (image .exit) ≡ formatted shape replica (now (image .entry)) ⌝ }
+// Makes a fresh image in a buffer of its size, of a log whose first slot has index `first`.
+pub fn format_image(image: &mut [u8], shape: Shape, replica: usize, first: u32) -> FormatAnswer
+    ensures answer { λ r. ⌜ formatNumbers r ≡ formatCallNumbers shape replica first (length (now (image .entry))) ⌝ }
+    ensures image { λ _. ⌜ now (image .exit) ≡ formatted shape replica first (now (image .entry)) ⌝ }
 {
-    let refusal = call_refusal(shape, replica, image.len());
+    let refusal = format_refusal(shape, replica, first, image.len());
     if refusal != 0 {
         return FormatAnswer::Refused(refusal);
     }
-    put_header(image, shape, replica);
+    put_header(image, shape, replica, first);
     put_blanks(image, shape);
     put_freshes(image, shape);
     FormatAnswer::Formatted

@@ -1,24 +1,25 @@
 -- What demand 3 supposes makes the invariant true at first.
-use mathlib.Core.Path.{_≡_, refl, sym, _∙_}
-use mathlib.Core.Bool.{Bool, true, false, not, _&&_}
-use Prim.Native.Nat.{ℕ, zero, suc, _≤_, _<_}
+use mathlib.Core.Path.{_≡_, refl, sym, ap, _∙_}
+use mathlib.Core.Bool.{Bool, true, false, not, _&&_, true≢false}
+use Prim.Native.Nat.{ℕ, zero, suc, _+_, _≤_, _<_}
 use native.Mathlib.Omega.{arith}
 use native.Mathlib.Decide.{decLt}
-use lib.Dec.{eqb, ltb}
-use borrow.Author.Tests.{ltb-true, eqb-true, lt-ltb, eq-eqb}
+use lib.Dec.{eqb, leb, ltb}
+use borrow.Author.Tests.{ltb-true, leb-true, eqb-true, lt-ltb, le-leb, eq-eqb}
 use Rattle.search.specs.Search.{lowest, count, oneIf}
 use Rattle.search.proofs.SearchLaws.{lowest-is, lowest-le, lowest-passes, below-lowest, lowest-le-passing}
 use Rattle.search.proofs.CountLaws.{sum-le, count-none}
 use Rattle.slices.specs.Parts.{Bytes}
 use Rattle.slices.specs.Same.{same}
 use Rattle.slices.proofs.SameLaws.{and-left, and-right, same-true}
-use Rattle.record.specs.Meaning.{Record, Entry, intact}
-use Rattle.image.specs.Image.{Image}
+use Rattle.record.specs.Meaning.{Header, proper, improper, firstIndex, Record, Entry, intact}
+use Rattle.image.specs.Image.{Image, index}
 use Rattle.image.specs.Cluster.{Cluster}
-use Rattle.image.specs.View.{epochOf, isBlank, epochAt, logLength, viewOf}
+use Rattle.image.specs.View.{epochOf, isBlank, isProper, epochAt, logLength, viewOf}
+use Rattle.image.proofs.ViewLaws.{readable-sound}
 use Rattle.planner.specs.Setting.{Setting, viewsOf}
 use Rattle.planner.specs.Rules.{majority}
-use Rattle.demand3.specs.Supposed.{History, DamagedSlot, undamaged, recordBad, entryBad, Damaged, SameUpTo, Agree, held, committed, Supposed}
+use Rattle.demand3.specs.Supposed.{History, DamagedSlot, undamaged, recordBad, entryBad, DamagedHeader, ownHeader, noHeader, Damaged, Within, SameUpTo, Agree, held, committed, Supposed}
 use Rattle.protocol.proofs.Consistency.{Consistent}
 use Rattle.protocol.proofs.HoldingLaws.{Holding}
 use Rattle.protocol.proofs.Invariant.{Inv}
@@ -57,127 +58,223 @@ some-passes p b h = go (decLt (lowest p b) b)
     go (yes l) = l
     go (no l) = absurd (omega (arith, count-none p b (λ k x. below-lowest p b k (omega arith)), lowest-le p b))
 
-pub record Held (k e : ℕ) (h : History) : Type 0 where
-  pub within : k < h .length
-  pub epoch : h .epoch k ≡ e
+pub record Held (i e : ℕ) (h : History) : Type 0 where
+  pub within : Within i h
+  pub epoch : h .epoch i ≡ e
 
-pub held-elim : (k e : ℕ) (h : History) → held k e h ≡ true → Held k e h
+pub held-elim : (i e : ℕ) (h : History) → held i e h ≡ true → Held i e h
 unfolding held
-held-elim k e h x = record { within = ltb-true k (h .length) (and-left (ltb k (h .length)) (eqb (h .epoch k) e) x); epoch = eqb-true (h .epoch k) e (and-right (ltb k (h .length)) (eqb (h .epoch k) e) x) }
+held-elim i e h x =
+    let l = leb (h .first) i in
+    let g = ltb i (h .first + h .length) in
+    let q = eqb (h .epoch i) e in
+    let y = and-right l (g && q) x in
+    record {
+      within = record { low = leb-true (h .first) i (and-left l (g && q) x); high = ltb-true i (h .first + h .length) (and-left g q y) };
+      epoch = eqb-true (h .epoch i) e (and-right g q y);
+    }
 
-held-intro : (k e : ℕ) (h : History) → k < h .length → h .epoch k ≡ e → held k e h ≡ true
+held-intro : (i e : ℕ) (h : History) → Within i h → h .epoch i ≡ e → held i e h ≡ true
 unfolding held
-held-intro k e h a b = rw (lt-ltb k (h .length) a, eq-eqb (h .epoch k) e b)
+held-intro i e h w b = rw (le-leb (h .first) i (w .low), lt-ltb i (h .first + h .length) (w .high), eq-eqb (h .epoch i) e b)
 
-pub committed-held : (k e : ℕ) (p : Bytes) (h : History) → committed k e p h ≡ true → held k e h ≡ true
+within-slot : (h : History) (k : ℕ) → k < h .length → Within (h .first + k) h
+within-slot h k b = record { low = omega arith; high = omega arith }
+
+pub committed-held : (i e : ℕ) (p : Bytes) (h : History) → committed i e p h ≡ true → held i e h ≡ true
 unfolding committed
-committed-held k e p h x = and-left (held k e h) (same (h .payload k) p && not (h .inFlight k)) x
+committed-held i e p h x = and-left (held i e h) (same (h .payload i) p && not (h .inFlight i)) x
 
-pub committed-payload : (k e : ℕ) (p : Bytes) (h : History) → committed k e p h ≡ true → h .payload k ≡ p
+pub committed-payload : (i e : ℕ) (p : Bytes) (h : History) → committed i e p h ≡ true → h .payload i ≡ p
 unfolding committed
-committed-payload k e p h x =
-    same-true (h .payload k) p
-    (and-left (same (h .payload k) p) (not (h .inFlight k)) (and-right (held k e h) (same (h .payload k) p && not (h .inFlight k)) x))
+committed-payload i e p h x =
+    same-true (h .payload i) p
+    (and-left (same (h .payload i) p) (not (h .inFlight i)) (and-right (held i e h) (same (h .payload i) p && not (h .inFlight i)) x))
 
-pub committed-few : (n k e : ℕ) (p : Bytes) (H : ℕ → History) → count (λ c. committed k e p (H c)) n ≤ count (λ c. held k e (H c)) n
+pub committed-few : (n i e : ℕ) (p : Bytes) (H : ℕ → History) → count (λ c. committed i e p (H c)) n ≤ count (λ c. held i e (H c)) n
 unfolding count committed oneIf
-committed-few n k e p H =
-    sum-le (λ c. oneIf (committed k e p (H c))) (λ c. oneIf (held k e (H c))) n (λ c b. go (held k e (H c)) (same (H c .payload k) p && not (H c .inFlight k)))
+committed-few n i e p H =
+    sum-le (λ c. oneIf (committed i e p (H c))) (λ c. oneIf (held i e (H c))) n (λ c b. go (held i e (H c)) (same (H c .payload i) p && not (H c .inFlight i)))
   where
     go : (a t : Bool) → oneIf (a && t) ≤ oneIf a
     go true true = omega arith
     go true false = omega arith
     go false t = omega arith
 
--- ---- the one payload and the one epoch below, for each slot and epoch: those of the lowest replica whose log held it
-module _ (n : ℕ) (H : ℕ → History) where
-  unfoldable pub witness : ℕ → ℕ → ℕ
-  witness k e = lowest (λ c. held k e (H c)) n
+-- ---- the one payload for each slot and epoch, and the one epoch below: those of the lowest replica whose log held it, and of the lowest
+-- whose log held it and the index below. Slots are counted from index L
+module _ (n : ℕ) (H : ℕ → History) (L : ℕ) where
+  abbrev heldAt : ℕ → ℕ → ℕ → Bool
+  heldAt k e c = held (L + k) e (H c)
+
+  abbrev heldTwo : ℕ → ℕ → ℕ → Bool
+  heldTwo k e c = leb (H c .first) (L + k) && held (L + suc k) e (H c)
 
   unfoldable pub payloadAt : ℕ → ℕ → Bytes
-  payloadAt k e = H (witness k e) .payload k
+  payloadAt k e = H (lowest (heldAt k e) n) .payload (L + k)
 
   unfoldable pub epochBelow : ℕ → ℕ → ℕ
   epochBelow zero e = zero
-  epochBelow (suc k) e = H (witness (suc k) e) .epoch k
+  epochBelow (suc k) e = H (lowest (heldTwo k e) n) .epoch (L + k)
 
-  module _ (agree : Agree n H) (c k : ℕ) (cn : c < n) (h : k < H c .length) where
-    like-witness : SameUpTo k (H (witness k (H c .epoch k))) (H c)
-    unfolding witness Agree
-    like-witness =
-        let e = H c .epoch k in
-        let p = held-intro k e (H c) h refl in
-        let w = lowest (λ d. held k e (H d)) n in
-        let b = lowest-le-passing (λ d. held k e (H d)) n c cn p in
-        let x = held-elim k e (H w) (lowest-passes (λ d. held k e (H d)) n (omega arith)) in
-        agree w c k (omega arith) cn (x .within) h (x .epoch)
+  module _ (agree : Agree n H) (c k : ℕ) (cn : c < n) where
+    pub payload-at : (e : ℕ) → held (L + k) e (H c) ≡ true → payloadAt k e ≡ H c .payload (L + k)
+    unfolding payloadAt Agree
+    payload-at e h =
+        let w = lowest (heldAt k e) n in
+        let b = lowest-le-passing (heldAt k e) n c cn h in
+        let t = lowest-passes (heldAt k e) n (omega arith) in
+        let x = held-elim (L + k) e (H w) t in
+        let y = held-elim (L + k) e (H c) h in
+        agree w c (L + k) (omega arith) cn (x .within) (y .within) (x .epoch ∙ sym (y .epoch))
+        .payloads (L + k) (x .within .low) (omega (arith, y .within .low)) (omega arith)
 
-    pub payload-at : payloadAt k (H c .epoch k) ≡ H c .payload k
-    unfolding payloadAt
-    payload-at = like-witness .payloads k (omega arith)
+    pub epoch-below : (e : ℕ) → H c .first ≤ L + k → held (L + suc k) e (H c) ≡ true → epochBelow (suc k) e ≡ H c .epoch (L + k)
+    unfolding epochBelow Agree
+    epoch-below e low h =
+        let w = lowest (heldTwo k e) n in
+        let p : heldTwo k e c ≡ true = rw (le-leb (H c .first) (L + k) low) h in
+        let b = lowest-le-passing (heldTwo k e) n c cn p in
+        let t = lowest-passes (heldTwo k e) n (omega arith) in
+        let x = held-elim (L + suc k) e (H w) (and-right (leb (H w .first) (L + k)) (held (L + suc k) e (H w)) t) in
+        let y = held-elim (L + suc k) e (H c) h in
+        agree w c (L + suc k) (omega arith) cn (x .within) (y .within) (x .epoch ∙ sym (y .epoch))
+        .epochs (L + k) (leb-true (H w .first) (L + k) (and-left (leb (H w .first) (L + k)) (held (L + suc k) e (H w)) t)) low (omega arith)
 
-  pub epoch-below : Agree n H → (c k : ℕ) → c < n → suc k < H c .length → epochBelow (suc k) (H c .epoch (suc k)) ≡ H c .epoch k
-  unfolding epochBelow
-  epoch-below a c k cn h = like-witness a c (suc k) cn h .epochs k (omega arith)
+-- ---- a readable replica has its history's header, and what is supposed of it
+proper-own : {first : ℕ} {h : Header} → DamagedHeader first h → isProper h ≡ true → h ≡ proper first
+unfolding isProper
+proper-own ownHeader e = refl
+proper-own noHeader e = absurd (true≢false (sym e))
 
-module _ (S : Setting) (F : Cluster) (H : ℕ → History) (K e : ℕ) (p : Bytes) (s : Supposed S F H K e p) where
-  view-length : (c : ℕ) → c < S .shape .n → viewsOf S F c .length ≡ H c .length
+-- G is the cluster taken apart under the histories' first indices: a readable replica is the same in F
+pub record Linked (S : Setting) (F G : Cluster) (H : ℕ → History) : Type 0 where
+  pub header : (c : ℕ) → G c .header ≡ F c .header
+  pub same : (c : ℕ) → F c .header ≡ proper (H c .first) → G c ≡ F c
+
+module _ (S : Setting) (F G : Cluster) (H : ℕ → History) (I e : ℕ) (p : Bytes) (s : Supposed S G H I e p) (link : Linked S F G H) where
+  own-header : (c : ℕ) → c < S .shape .n → viewsOf S F c .readable ≡ true → F c .header ≡ proper (H c .first)
+  unfolding viewsOf
+  own-header c cn ok = sym (link .header c) ∙ proper-own (s .headers c cn) (rw (link .header c) (readable-sound (S .present c) (S .shape .m) (F c) ok .headed))
+
+  damaged : (c : ℕ) → c < S .shape .n → viewsOf S F c .readable ≡ true → Damaged (S .shape .m) (H c) (F c)
+  damaged c cn ok = rw (← link .same c (own-header c cn ok)) (s .damaged c cn)
+
+  pub view-first : (c : ℕ) → c < S .shape .n → viewsOf S F c .readable ≡ true → viewsOf S F c .first ≡ H c .first
+  unfolding viewsOf viewOf firstIndex
+  view-first c cn ok = ap firstIndex (own-header c cn ok)
+
+  view-length : (c : ℕ) → c < S .shape .n → viewsOf S F c .readable ≡ true → viewsOf S F c .length ≡ H c .length
   unfolding viewsOf viewOf
-  view-length c cn = damaged-length (S .shape .m) (H c) (F c) (s .damaged c cn)
+  view-length c cn ok = damaged-length (S .shape .m) (H c) (F c) (damaged c cn ok)
 
-  view-epoch : (c k : ℕ) → c < S .shape .n → k < H c .length → viewsOf S F c .epoch k ≡ H c .epoch k
-  unfolding viewsOf viewOf epochAt
-  view-epoch c k cn h = slot-epoch (s .damaged c cn .used k h)
+  view-epoch : (c k : ℕ) → c < S .shape .n → viewsOf S F c .readable ≡ true → k < H c .length → viewsOf S F c .epoch k ≡ H c .epoch (H c .first + k)
+  unfolding viewsOf viewOf epochAt index
+  view-epoch c k cn ok h = slot-epoch (damaged c cn ok .used k h)
 
-  base-consistent : Consistent S (payloadAt (S .shape .n) H) (epochBelow (S .shape .n) H) F
-  base-consistent = record {
-    payloads = λ c k q cn ok h x.
-        let b : k < H c .length = rw (view-length c cn) at h in
-        let v = view-epoch c k cn b in
-        slot-payload (s .damaged c cn .used k b) q (rw v at x) ∙ sym (rw v (payload-at (S .shape .n) H (s .agree) c k cn b));
-    chain = λ c k cn ok h.
-        let b : suc k < H c .length = rw (view-length c cn) at h in
-        view-epoch c k cn (omega arith) ∙ sym (rw (view-epoch c (suc k) cn b) (epoch-below (S .shape .n) H (s .agree) c k cn b));
-  }
-
-  pub base-holding : (c : ℕ) → c < S .shape .n → held K e (H c) ≡ true → Holding K e (viewsOf S F c)
-  base-holding c cn h =
-      let x = held-elim K e (H c) h in
-      record { within = omega (arith, view-length c cn, x .within); epoch = view-epoch c K cn (x .within) ∙ x .epoch }
-
-  pub base-inv : Inv S (payloadAt (S .shape .n) H) (epochBelow (S .shape .n) H) (λ c. held K e (H c)) K e F F
-  base-inv = record {
-    consistent = base-consistent;
-    holders = λ c cn h r. record { used = base-holding c cn h; entry = λ q y. y };
-  }
-
-  pub many : majority (S .shape .n) ≤ count (λ c. held K e (H c)) (S .shape .n)
-  many = omega (arith, s .onMajority, committed-few (S .shape .n) K e p H)
-
-  -- every log that held it held this payload
-  pub one-payload : (c : ℕ) → c < S .shape .n → held K e (H c) ≡ true → H c .payload K ≡ p
-  unfolding Agree
-  one-payload c cn h =
-      let d = lowest (λ d. committed K e p (H d)) (S .shape .n) in
-      let dn = some-passes (λ d. committed K e p (H d)) (S .shape .n) (omega (arith, s .onMajority, majority-some (S .shape .n))) in
-      let t = lowest-passes (λ d. committed K e p (H d)) (S .shape .n) dn in
-      let x = held-elim K e (H d) (committed-held K e p (H d) t) in
-      let y = held-elim K e (H c) h in
-      s .agree c d K cn dn (y .within) (x .within) (y .epoch ∙ sym (x .epoch)) .payloads K (omega arith) ∙ committed-payload K e p (H d) t
-
-  pub payload-is : S .leader < S .shape .n → payloadAt (S .shape .n) H K e ≡ p
-  payload-is n =
-      let x = held-elim K e (H (S .leader)) (s .leaderHeld) in
-      rw (← x .epoch) (payload-at (S .shape .n) H (s .agree) (S .leader) K n (x .within)) ∙ one-payload (S .leader) n (s .leaderHeld)
-
-  -- an entry that a log held, intact with its epoch, has the payload
-  pub base-payload : (c : ℕ) (q : Bytes) → c < S .shape .n → held K e (H c) ≡ true → F c .entries K ≡ intact e q → q ≡ p
-  base-payload c q cn h x =
-      let y = held-elim K e (H c) h in
-      slot-payload (s .damaged c cn .used K (y .within)) q (rw (y .epoch) x) ∙ one-payload c cn h
+  -- the slot of an index that a readable replica's log held
+  pub base-holding : (c k : ℕ) → c < S .shape .n → viewsOf S F c .readable ≡ true → held I e (H c) ≡ true → viewsOf S F c .first + k ≡ I → Holding k e (viewsOf S F c)
+  base-holding c k cn ok h at =
+      let x = held-elim I e (H c) h in
+      let f = view-first c cn ok in
+      let b : k < H c .length = omega (arith, x .within .high, f, at) in
+      let g : H c .first + k ≡ I = omega (arith, f, at) in
+      record { within = omega (arith, view-length c cn ok, b); epoch = view-epoch c k cn ok b ∙ ap (H c .epoch) g ∙ x .epoch }
 
   -- a slot that is used under this epoch was held
-  pub used-held : (c : ℕ) → c < S .shape .n → Holding K e (viewsOf S F c) → held K e (H c) ≡ true
-  used-held c cn u =
-      let b : K < H c .length = rw (view-length c cn) at (u .within) in
-      held-intro K e (H c) b (sym (view-epoch c K cn b) ∙ u .epoch)
+  pub used-held : (c k : ℕ) → c < S .shape .n → viewsOf S F c .readable ≡ true → viewsOf S F c .first + k ≡ I → Holding k e (viewsOf S F c) → held I e (H c) ≡ true
+  used-held c k cn ok at u =
+      let f = view-first c cn ok in
+      let b : k < H c .length = omega (arith, u .within, view-length c cn ok) in
+      let g : H c .first + k ≡ I = omega (arith, f, at) in
+      held-intro I e (H c) (record { low = omega arith; high = omega arith }) (ap (H c .epoch) (sym g) ∙ sym (view-epoch c k cn ok b) ∙ u .epoch)
+
+  -- a log in which it stood committed, and so every log that held it, held this payload
+  pub record Stood : Type 0 where
+    pub replica : ℕ
+    pub below : replica < S .shape .n
+    pub there : held I e (H replica) ≡ true
+    pub payload : H replica .payload I ≡ p
+
+  pub stood : Stood
+  stood =
+      let d = lowest (λ d. committed I e p (H d)) (S .shape .n) in
+      let dn = some-passes (λ d. committed I e p (H d)) (S .shape .n) (omega (arith, s .onMajority, majority-some (S .shape .n))) in
+      let t = lowest-passes (λ d. committed I e p (H d)) (S .shape .n) dn in
+      record { replica = d; below = dn; there = committed-held I e p (H d) t; payload = committed-payload I e p (H d) t }
+
+  pub one-payload : (c : ℕ) → c < S .shape .n → held I e (H c) ≡ true → H c .payload I ≡ p
+  unfolding Agree
+  one-payload c cn h =
+      let o = stood in
+      let x = held-elim I e (H (o .replica)) (o .there) in
+      let y = held-elim I e (H c) h in
+      s .agree c (o .replica) I cn (o .below) (y .within) (x .within) (y .epoch ∙ sym (x .epoch)) .payloads I (y .within .low) (x .within .low) (omega arith) ∙ o .payload
+
+  -- an entry that a log held, intact with its epoch, has the payload
+  pub base-payload : (c k : ℕ) (q : Bytes) → c < S .shape .n → held I e (H c) ≡ true → H c .first + k ≡ I → G c .entries k ≡ intact e q → q ≡ p
+  unfolding index
+  base-payload c k q cn h at x =
+      let y = held-elim I e (H c) h in
+      let b : k < H c .length = omega (arith, y .within .high, at) in
+      slot-payload (s .damaged c cn .used k b) q (rw (at, y .epoch) x) ∙ ap (H c .payload) at ∙ one-payload c cn h
+
+  pub many : majority (S .shape .n) ≤ count (λ c. held I e (H c)) (S .shape .n)
+  many = omega (arith, s .onMajority, committed-few (S .shape .n) I e p H)
+
+-- what is supposed of a cluster that planning does not refuse: every readable replica has the leader's first index, and K is the slot
+pub record Ground (S : Setting) (F : Cluster) (H : ℕ → History) (I e : ℕ) (p : Bytes) (K : ℕ) : Type 0 where
+  pub under : Cluster
+  pub supposed : Supposed S under H I e p
+  pub link : Linked S F under H
+  pub firsts : (c : ℕ) → c < S .shape .n → viewsOf S F c .readable ≡ true → viewsOf S F c .first ≡ viewsOf S F (S .leader) .first
+  pub slot : viewsOf S F (S .leader) .first + K ≡ I
+
+module _ (S : Setting) (F : Cluster) (H : ℕ → History) (I e : ℕ) (p : Bytes) (K : ℕ) (g : Ground S F H I e p K) where
+  abbrev G : Cluster
+  G = g .under
+
+  abbrev s : Supposed S G H I e p
+  s = g .supposed
+
+  abbrev pub leaderFirst : ℕ
+  leaderFirst = viewsOf S F (S .leader) .first
+
+  -- a readable replica's history begins where the leader's log does
+  pub own-first : (c : ℕ) → c < S .shape .n → viewsOf S F c .readable ≡ true → H c .first ≡ leaderFirst
+  own-first c cn ok = sym (view-first S F G H I e p s (g .link) c cn ok) ∙ g .firsts c cn ok
+
+  at-slot : (c k : ℕ) → c < S .shape .n → viewsOf S F c .readable ≡ true → k < viewsOf S F c .length → held (leaderFirst + k) (viewsOf S F c .epoch k) (H c) ≡ true
+  at-slot c k cn ok h =
+      let b : k < H c .length = rw (view-length S F G H I e p s (g .link) c cn ok) at h in
+      rw (← own-first c cn ok, view-epoch S F G H I e p s (g .link) c k cn ok b) (held-intro (H c .first + k) (H c .epoch (H c .first + k)) (H c) (within-slot (H c) k b) refl)
+
+  at-epoch : (c k : ℕ) → c < S .shape .n → viewsOf S F c .readable ≡ true → k < viewsOf S F c .length → viewsOf S F c .epoch k ≡ H c .epoch (leaderFirst + k)
+  at-epoch c k cn ok h = sym (held-elim (leaderFirst + k) (viewsOf S F c .epoch k) (H c) (at-slot c k cn ok h) .epoch)
+
+  base-consistent : Consistent S (payloadAt (S .shape .n) H leaderFirst) (epochBelow (S .shape .n) H leaderFirst) F
+  unfolding index
+  base-consistent = record {
+    payloads = λ c k q cn ok h x.
+        let b : k < H c .length = rw (view-length S F G H I e p s (g .link) c cn ok) at h in
+        slot-payload (damaged S F G H I e p s (g .link) c cn ok .used k b) q (rw (view-epoch S F G H I e p s (g .link) c k cn ok b) at x)
+        ∙ ap (λ (f : ℕ). H c .payload (f + k)) (own-first c cn ok)
+        ∙ sym (payload-at (S .shape .n) H leaderFirst (s .agree) c k cn (viewsOf S F c .epoch k) (at-slot c k cn ok h));
+    chain = λ c k cn ok h.
+        at-epoch c k cn ok (omega arith)
+        ∙ sym (epoch-below (S .shape .n) H leaderFirst (s .agree) c k cn (viewsOf S F c .epoch (suc k)) (omega (arith, own-first c cn ok)) (at-slot c (suc k) cn ok h));
+  }
+
+  pub ground-holding : (c : ℕ) → c < S .shape .n → viewsOf S F c .readable ≡ true → held I e (H c) ≡ true → Holding K e (viewsOf S F c)
+  ground-holding c cn ok h = base-holding S F G H I e p s (g .link) c K cn ok h (omega (arith, g .firsts c cn ok, g .slot))
+
+  pub base-inv : Inv S (payloadAt (S .shape .n) H leaderFirst) (epochBelow (S .shape .n) H leaderFirst) (λ c. held I e (H c)) K e F F
+  base-inv = record {
+    consistent = base-consistent;
+    holders = λ c cn h r. record { used = ground-holding c cn r h; entry = λ q y. y };
+  }
+
+  pub payload-is : payloadAt (S .shape .n) H leaderFirst K e ≡ p
+  payload-is =
+      let o = stood S F G H I e p s (g .link) in
+      payload-at (S .shape .n) H leaderFirst (s .agree) (o .replica) K (o .below) e (rw (g .slot) (o .there)) ∙ ap (H (o .replica) .payload) (g .slot) ∙ o .payload

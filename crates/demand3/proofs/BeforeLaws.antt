@@ -1,18 +1,18 @@
 -- A cluster before the damage, damaged, is one with histories.
-use Prim.Native.Nat.{ℕ, _<_}
+use Prim.Native.Nat.{ℕ, _+_, _-_, _<_}
 use mathlib.Core.Path.{_≡_, refl}
 use mathlib.Core.Bool.{Bool, true, false, cond}
 use native.Mathlib.Omega.{arith}
 use Rattle.slices.specs.Parts.{Bytes}
-use Rattle.record.specs.Meaning.{Record, good, blank, Entry, intact}
-use Rattle.image.specs.Image.{Image}
+use Rattle.record.specs.Meaning.{Header, proper, improper, firstIndex, Record, good, blank, Entry, intact}
+use Rattle.image.specs.Image.{Image, index}
 use Rattle.image.specs.Cluster.{Cluster}
 use Rattle.image.specs.View.{conditionAt, epochOf, epochAt, logLength}
 use Rattle.image.proofs.ViewLaws.{length-le, blank-next}
 use Rattle.image.proofs.VerdictLaws.{is-stored}
 use Rattle.planner.specs.Setting.{Setting}
-use Rattle.demand3.specs.Supposed.{DamagedSlot, undamaged, recordBad, entryBad, Damaged, Supposed}
-use Rattle.demand3.specs.Before.{Flight, FlightSlot, arrived, recordAlone, Before, SlotDamage, spared, recordDamaged, entryDamaged, unusedDamaged, Damage, payloadIn, historyOf, DamagedCluster}
+use Rattle.demand3.specs.Supposed.{DamagedSlot, undamaged, recordBad, entryBad, DamagedHeader, ownHeader, noHeader, Damaged, Supposed}
+use Rattle.demand3.specs.Before.{Flight, FlightSlot, arrived, recordAlone, Before, SlotDamage, spared, recordDamaged, entryDamaged, unusedDamaged, HeaderDamage, headerSpared, headerRefused, Damage, payloadIn, payloadAt, historyOf, DamagedCluster}
 use Rattle.protocol.proofs.AtRest.{whole-slot}
 
 -- a slot that was stored is one whose record and entry arrived
@@ -35,10 +35,16 @@ blank-kept recordDamaged e = absurd (let z : _≡_ {A = ℕ} 0 1 = cc in omega a
 blank-kept (entryDamaged h) e = e
 blank-kept unusedDamaged e = e
 
+header-damaged : {h g : Header} → HeaderDamage h g → DamagedHeader (firstIndex h) g
+unfolding firstIndex
+header-damaged {h = proper first} headerSpared = ownHeader
+header-damaged {h = improper b} headerSpared = noHeader
+header-damaged headerRefused = noHeader
+
 module _ (m : ℕ) (f : Flight) (i : Image) (b : Before m f i) where
   -- the slot and its payload
-  flight-slot : (k : ℕ) → k < logLength m i → FlightSlot (historyOf m f i .payload k) (i .records k) (i .entries k)
-  unfolding historyOf
+  flight-slot : (k : ℕ) → k < logLength m i → FlightSlot (payloadAt f i k) (i .records k) (i .entries k)
+  unfolding payloadAt
   flight-slot k h = go (f .inFlight k) refl
     where
       go : (t : Bool) → f .inFlight k ≡ t → FlightSlot (cond t (f .payload k) (payloadIn (i .entries k))) (i .records k) (i .entries k)
@@ -47,16 +53,21 @@ module _ (m : ℕ) (f : Flight) (i : Image) (b : Before m f i) where
           let w = whole-slot (i .records k) (i .entries k) (unfold conditionAt in is-stored m i k (b .stored k h e)) in
           stored-slot (i .records k) (i .entries k) (epochOf (i .records k) (i .entries k)) (w .payload) (w .rec) (w .ent)
 
+  -- the slot of an index
+  index-slot : (k : ℕ) → firstIndex (i .header) + k - firstIndex (i .header) ≡ k
+  index-slot k = omega arith
+
   pub history-damaged : (j : Image) → Damage m i j → Damaged m (historyOf m f i) j
-  unfolding historyOf epochAt
+  unfolding historyOf epochAt index
   history-damaged j d = record {
     fits = length-le m i;
-    used = λ k h. slot-damaged (historyOf m f i .payload k) (flight-slot k h) (d .slots k (omega (arith, length-le m i)));
+    used = λ k h. rw (index-slot k) (slot-damaged (payloadAt f i k) (flight-slot k h) (d .slots k (omega (arith, length-le m i))));
     unused = λ h. blank-kept (d .slots (logLength m i) h) (blank-next m i h);
   }
 
-pub damaged-cluster : (S : Setting) (F : Cluster) (f : ℕ → Flight) (G : Cluster) (k e : ℕ) (p : Bytes) → DamagedCluster S F f G k e p → Supposed S G (λ c. historyOf (S .shape .m) (f c) (F c)) k e p
-damaged-cluster S F f G k e p s = record {
+pub damaged-cluster : (S : Setting) (F : Cluster) (f : ℕ → Flight) (G : Cluster) (j e : ℕ) (p : Bytes) → DamagedCluster S F f G j e p → Supposed S G (λ c. historyOf (S .shape .m) (f c) (F c)) j e p
+damaged-cluster S F f G j e p s = record {
+  headers = λ c cn. unfold historyOf in header-damaged (s .damage c cn .header);
   damaged = λ c cn. history-damaged (S .shape .m) (f c) (F c) (s .before c cn) (G c) (s .damage c cn);
   agree = s .agree;
   onMajority = s .onMajority;

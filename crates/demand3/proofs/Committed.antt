@@ -1,7 +1,7 @@
 -- Part B on what the bytes mean: of a payload that stood committed on a majority, all that recovery can reach keeps it.
-use Prim.Native.Nat.{ℕ, _<_}
+use Prim.Native.Nat.{ℕ, _+_, _<_}
 use mathlib.Core.Path.{_≡_, refl, sym, ap, _∙_}
-use mathlib.Core.Bool.{Bool, true, false}
+use mathlib.Core.Bool.{Bool, true, false, _&&_}
 use mathlib.Core.Option.{none}
 use native.Mathlib.Omega.{arith}
 use native.Mathlib.Decide.{ℕ-discrete}
@@ -10,7 +10,7 @@ use Rattle.record.specs.Meaning.{good, intact}
 use Rattle.image.specs.Image.{Image}
 use Rattle.image.specs.Cluster.{Cluster}
 use Rattle.planner.specs.Setting.{Setting, viewsOf}
-use Rattle.planner.specs.Rules.{isFaulty, have, rule, isWait, answer, Waiting, Ready, firstWaiting, end}
+use Rattle.planner.specs.Rules.{sameFirsts, isFaulty, have, rule, isWait, answer, Waiting, Ready, firstWaiting, end}
 use Rattle.protocol.specs.Recovery.{next}
 use Rattle.demand3.specs.Supposed.{History, held, Supposed}
 use Rattle.protocol.proofs.PlanLaws.{ready-intro}
@@ -19,7 +19,7 @@ use Rattle.protocol.proofs.Always.{always}
 use Rattle.protocol.proofs.Quorum.{untruncated, end-above}
 use Rattle.protocol.proofs.HoldingLaws.{Holding}
 use Rattle.protocol.proofs.Invariant.{Inv, inv-quorum, reach-inv}
-use Rattle.demand3.proofs.Base.{payloadAt, epochBelow, base-inv, base-holding, base-payload, used-held, many, payload-is}
+use Rattle.demand3.proofs.Base.{payloadAt, epochBelow, base-inv, many, payload-is, Ground}
 use Rattle.protocol.proofs.AtRest.{at-rest-facts, rest-whole}
 use Rattle.protocol.proofs.RuleLaws.{fetches, waits, stops, unstuck}
 
@@ -28,49 +28,42 @@ pub record WholeWith (i : Image) (k e : ℕ) (p : Bytes) : Type 0 where
   pub rec : i .records k ≡ good e
   pub ent : i .entries k ≡ intact e p
 
-module _ (S : Setting) (F₀ : Cluster) (H : ℕ → History) (K e : ℕ) (p : Bytes) (n : S .leader < S .shape .n) (s : Supposed S F₀ H K e p) where
+module _ (S : Setting) (F₀ : Cluster) (H : ℕ → History) (I e : ℕ) (p : Bytes) (K : ℕ) (n : S .leader < S .shape .n) (g : Ground S F₀ H I e p K) where
+  abbrev L : ℕ
+  L = viewsOf S F₀ (S .leader) .first
+
+  abbrev s : Supposed S (g .under) H I e p
+  s = g .supposed
+
   Holds : Cluster → Type 0
-  Holds F = Inv S (payloadAt (S .shape .n) H) (epochBelow (S .shape .n) H) (λ c. held K e (H c)) K e F₀ F
+  Holds F = Inv S (payloadAt (S .shape .n) H L) (epochBelow (S .shape .n) H L) (λ c. held I e (H c)) K e F₀ F
 
   holds : {F : Cluster} → Reach S F₀ F → Holds F
   unfolding Holds
-  holds r = reach-inv S (payloadAt (S .shape .n) H) (epochBelow (S .shape .n) H) (λ c. held K e (H c)) K e F₀ n (many S F₀ H K e p s) (s .leaderHeld) (base-inv S F₀ H K e p s) r
+  holds r = reach-inv S (payloadAt (S .shape .n) H L) (epochBelow (S .shape .n) H L) (λ c. held I e (H c)) K e F₀ n (many S F₀ (g .under) H I e p s (g .link)) (s .leaderHeld) (base-inv S F₀ H I e p K g) r
 
   module _ {F : Cluster} (r : Reach S F₀ F) where
     readable : (c : ℕ) → viewsOf S F₀ c .readable ≡ true → viewsOf S F c .readable ≡ true
     readable c ok = always S F₀ n r .readables c ∙ ok
 
-    away-same : (c : ℕ) → viewsOf S F₀ c .readable ≡ false → F c ≡ F₀ c
-    away-same c away = always S F₀ n r .untouched c away
+    -- the slot of the index, on every readable replica
+    pub kept-first : (c : ℕ) → c < S .shape .n → viewsOf S F₀ c .readable ≡ true → viewsOf S F c .first + K ≡ I
+    kept-first c cn ok = omega (arith, always S F₀ n r .firsts c, g .firsts c cn ok, g .slot)
 
-    pub kept-used : (c : ℕ) → c < S .shape .n → held K e (H c) ≡ true → Holding K e (viewsOf S F c)
-    unfolding Holds viewsOf
-    kept-used c cn h = go (viewsOf S F₀ c .readable) refl
-      where
-        go : (t : Bool) → viewsOf S F₀ c .readable ≡ t → Holding K e (viewsOf S F c)
-        go true ok = holds r .holders c cn h (readable c ok) .used
-        go false away = rw (away-same c away) (base-holding S F₀ H K e p s c cn h)
-
-    pub kept-entry : (c : ℕ) (q : Bytes) → c < S .shape .n → held K e (H c) ≡ true → F₀ c .entries K ≡ intact e q → F c .entries K ≡ intact e q
+    pub kept-used : (c : ℕ) → c < S .shape .n → viewsOf S F₀ c .readable ≡ true → held I e (H c) ≡ true → Holding K e (viewsOf S F c)
     unfolding Holds
-    kept-entry c q cn h x = go (viewsOf S F₀ c .readable) refl
-      where
-        go : (t : Bool) → viewsOf S F₀ c .readable ≡ t → F c .entries K ≡ intact e q
-        go true ok = holds r .holders c cn h (readable c ok) .entry q x
-        go false away = ap (λ (i : Image). i .entries K) (always S F₀ n r .untouched c away) ∙ x
+    kept-used c cn ok h = holds r .holders c cn h (readable c ok) .used
 
-    pub used-payload : (c : ℕ) (q : Bytes) → c < S .shape .n → Holding K e (viewsOf S F c) → F c .entries K ≡ intact e q → q ≡ p
-    unfolding Holds viewsOf
-    used-payload c q cn u x = go (viewsOf S F₀ c .readable) refl
-      where
-        go : (t : Bool) → viewsOf S F₀ c .readable ≡ t → q ≡ p
-        go true ok =
-            holds r .consistent .payloads c K q cn (readable c ok) (u .within) (x ∙ ap (λ (t : ℕ). intact t q) (sym (u .epoch)))
-            ∙ ap (payloadAt (S .shape .n) H K) (u .epoch)
-            ∙ payload-is S F₀ H K e p s n
-        go false away =
-            let same = away-same c away in
-            base-payload S F₀ H K e p s c q cn (used-held S F₀ H K e p s c cn (rw same at u)) (ap (λ (i : Image). i .entries K) (sym same) ∙ x)
+    pub kept-entry : (c : ℕ) (q : Bytes) → c < S .shape .n → viewsOf S F₀ c .readable ≡ true → held I e (H c) ≡ true → F₀ c .entries K ≡ intact e q → F c .entries K ≡ intact e q
+    unfolding Holds
+    kept-entry c q cn ok h x = holds r .holders c cn h (readable c ok) .entry q x
+
+    pub used-payload : (c : ℕ) (q : Bytes) → c < S .shape .n → viewsOf S F₀ c .readable ≡ true → Holding K e (viewsOf S F c) → F c .entries K ≡ intact e q → q ≡ p
+    unfolding Holds
+    used-payload c q cn ok u x =
+        holds r .consistent .payloads c K q cn (readable c ok) (u .within) (x ∙ ap (λ (t : ℕ). intact t q) (sym (u .epoch)))
+        ∙ ap (payloadAt (S .shape .n) H L K) (u .epoch)
+        ∙ payload-is S F₀ H I e p K g
 
     -- the plan is ready and nothing is outstanding
     pub stands : (l : ℕ) → answer S (viewsOf S F₀) ≡ Ready l → next S F ≡ none → (c : ℕ) → c < S .shape .n → viewsOf S F₀ c .readable ≡ true → WholeWith (F c) K e p
@@ -79,29 +72,25 @@ module _ (S : Setting) (F₀ : Cluster) (H : ℕ → History) (K e : ℕ) (p : B
         let f = at-rest-facts S F l (always S F₀ n r .answers ∙ a) z in
         let t = holds r .holders (S .leader) n (s .leaderHeld) (f .plan .leader) .used in
         let v = rest-whole S F f c K cn (readable c ok) (t .within) in
+        let u : Holding K e (viewsOf S F c) = record { within = v .within; epoch = v .epochs ∙ t .epoch } in
         let w = v .slot in
         let y : F c .entries K ≡ intact e (w .payload) = w .ent ∙ ap (λ (v : ℕ). intact v (w .payload)) (t .epoch) in
-        record {
-          rec = w .rec ∙ ap good (t .epoch);
-          ent = y ∙ ap (intact e) (used-payload c (w .payload) cn (record { within = v .within; epoch = v .epochs ∙ t .epoch }) y);
-        }
+        record { rec = w .rec ∙ ap good (t .epoch); ent = y ∙ ap (intact e) (used-payload c (w .payload) cn ok u y) }
 
   -- ---- the leader's entry is faulty
-  pub ready-first : viewsOf S F₀ (S .leader) .readable ≡ true → (c : ℕ) → c < S .shape .n → have S (viewsOf S F₀) K c ≡ true → isFaulty (viewsOf S F₀ (S .leader) .condition K) ≡ true
+  pub ready-first : viewsOf S F₀ (S .leader) .readable ≡ true → sameFirsts S (viewsOf S F₀) ≡ true → (c : ℕ) → c < S .shape .n → have S (viewsOf S F₀) K c ≡ true → isFaulty (viewsOf S F₀ (S .leader) .condition K) ≡ true
       → ((j : ℕ) → j < end S (viewsOf S F₀) → (j ≡ K → ⊥) → isWait (rule S (viewsOf S F₀) j) ≡ false) → answer S (viewsOf S F₀) ≡ Ready (end S (viewsOf S F₀))
-  ready-first ok c cn h f others =
-      ready-intro S (viewsOf S F₀) (record { leader = ok; unstuck = λ k b. unstuck S (viewsOf S F₀) K (fetches S (viewsOf S F₀) K c cn h f) others k b (ℕ-discrete k K) })
+  ready-first ok one c cn h f others =
+      ready-intro S (viewsOf S F₀) (record { leader = ok; firsts = one; unstuck = λ k b. unstuck S (viewsOf S F₀) K (fetches S (viewsOf S F₀) K c cn h f) others k b (ℕ-discrete k K) })
 
-  pub waits-first : viewsOf S F₀ (S .leader) .readable ≡ true → isFaulty (viewsOf S F₀ (S .leader) .condition K) ≡ true → ((c : ℕ) → c < S .shape .n → have S (viewsOf S F₀) K c ≡ false)
-      → answer S (viewsOf S F₀) ≡ Waiting (firstWaiting S (viewsOf S F₀))
+  pub waits-first : viewsOf S F₀ (S .leader) .readable ≡ true → sameFirsts S (viewsOf S F₀) ≡ true → isFaulty (viewsOf S F₀ (S .leader) .condition K) ≡ true
+      → ((c : ℕ) → c < S .shape .n → have S (viewsOf S F₀) K c ≡ false) → answer S (viewsOf S F₀) ≡ Waiting (firstWaiting S (viewsOf S F₀))
   unfolding Holds
-  waits-first ok f none-has =
-      let i = base-inv S F₀ H K e p s in
+  waits-first ok one f none-has =
+      let i = base-inv S F₀ H I e p K g in
       let t = i .holders (S .leader) n (s .leaderHeld) ok .used in
-      let pay = payloadAt (S .shape .n) H in
-      let prev = epochBelow (S .shape .n) H in
-      let hold : ℕ → Bool = λ c. held K e (H c) in
-      let quorum = inv-quorum S pay prev hold K e F₀ n (many S F₀ H K e p s) (s .leaderHeld) F₀ i ok in
-      stops S (viewsOf S F₀) K ok
+      let hold : ℕ → Bool = λ c. held I e (H c) in
+      let quorum = inv-quorum S (payloadAt (S .shape .n) H L) (epochBelow (S .shape .n) H L) hold K e F₀ n (many S F₀ (g .under) H I e p s (g .link)) (s .leaderHeld) F₀ i ok in
+      stops S (viewsOf S F₀) K ok one
       (end-above S (viewsOf S F₀) hold K (t .within) quorum)
       (waits S (viewsOf S F₀) K none-has f (untruncated S (viewsOf S F₀) hold K (quorum K (omega arith))))

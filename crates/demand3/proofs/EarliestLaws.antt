@@ -12,8 +12,9 @@ use Rattle.search.proofs.ListedLaws.{listed-at}
 use Rattle.slices.specs.Parts.{Bytes}
 use Rattle.slices.specs.Same.{same}
 use Rattle.record.specs.Layout.{freshEntry}
-use Rattle.record.specs.Meaning.{proper, good, blank, intact, broken}
-use Rattle.image.specs.Cluster.{decode}
+use Rattle.record.specs.Meaning.{proper, firstIndex, good, blank, intact, broken}
+use Rattle.image.specs.Cluster.{decode, decodeWith}
+use Rattle.image.proofs.ClusterLaws.{with-one}
 use Rattle.image.specs.View.{isSize, epochOf, epochAt, isBlank, logLength}
 use Rattle.image.proofs.CallLaws.{size-low, size-high}
 use Rattle.planner.specs.Setting.{settingOf}
@@ -26,11 +27,11 @@ use Rattle.starred.specs.Sizes.{asked, cards}
 use Rattle.starred.proofs.ComputedLaws.{computed}
 use Rattle.starred.proofs.SeenLaws.{over, holds, recordOf, entryOf, over-at}
 use Rattle.demand3.specs.Supposed.{held, committed}
-use Rattle.demand3.specs.Before.{SlotDamage, spared, entryDamaged, HeaderDamage, headerSpared, Damage, payloadIn, historyOf, DamagedCluster}
-use Rattle.demand3.specs.Histories.{writtenTo, noFlights}
+use Rattle.demand3.specs.Before.{SlotDamage, spared, entryDamaged, HeaderDamage, headerSpared, Damage, payloadIn, payloadAt, historyOf, firstsOf, DamagedCluster}
+use Rattle.demand3.specs.Histories.{noFlights}
 use Rattle.demand3.specs.Earliest.{ruleBy, undamagedBut, TruncatesCommitted}
-use Rattle.demand3.proofs.ExampleDamage.{one-slot, agreed}
-use Rattle.demand3.proofs.EvenDamage.{before-either, alike-either}
+use Rattle.demand3.proofs.ExampleDamage.{one-slot, paidFrom, agreed}
+use Rattle.demand3.proofs.EvenDamage.{before-either, alike-either, first-either}
 
 -- ---- one replica: it leads or not, and it has A or not
 
@@ -46,18 +47,18 @@ slot-damage true has = entryDamaged noisy
 slot-damage false true = spared
 slot-damage false false = spared
 
-header-damage : (t : Bool) → HeaderDamage (cond t imageA emptyImage .header) proper
+header-damage : (t : Bool) → HeaderDamage (cond t imageA emptyImage .header) (proper 1)
 unfolding imageA emptyImage imageWith
 header-damage true = headerSpared
 header-damage false = headerSpared
 
-committed-is : (c : ℕ) (t : Bool) → committed 0 2 payloadA (historyOf 1 (noFlights c) (cond t imageA emptyImage)) ≡ t
-unfolding committed held historyOf imageA emptyImage imageWith noFlights epochAt epochOf logLength lowest isBlank payloadIn payloadA same
+committed-is : (c : ℕ) (t : Bool) → committed 1 2 payloadA (historyOf 1 (noFlights c) (cond t imageA emptyImage)) ≡ t
+unfolding committed held historyOf imageA emptyImage imageWith noFlights epochAt epochOf logLength lowest isBlank payloadIn payloadAt payloadA same firstIndex
 committed-is c true = refl
 committed-is c false = refl
 
-leader-held : held 0 2 (historyOf 1 (noFlights 0) imageA) ≡ true
-unfolding held historyOf imageA imageWith epochAt epochOf logLength lowest isBlank
+leader-held : held 1 2 (historyOf 1 (noFlights 0) imageA) ≡ true
+unfolding held historyOf imageA imageWith epochAt epochOf logLength lowest isBlank firstIndex
 leader-held = refl
 
 -- ---- the clusters
@@ -77,14 +78,14 @@ module _ (n d : ℕ) (low : 3 ≤ n) (high : n ≤ 7) (few : majority n + d ≤ 
         slots = one-slot (undamagedBut d c) (decode (withOne n) (cards n d) c) (rw (rec, ent) (slot-damage (eqb c 0) (ltb d c)));
       }
 
-  damaged-but : DamagedCluster (named (asked n d)) (undamagedBut d) noFlights (decode (withOne n) (cards n d)) 0 2 payloadA
+  damaged-but : DamagedCluster (named (asked n d)) (undamagedBut d) noFlights (decodeWith (withOne n) (firstsOf (undamagedBut d)) (cards n d)) 1 2 payloadA
   unfolding settingOf undamagedBut
   damaged-but = record {
     before = λ c h. before-either c (holds d c);
-    damage = damage-but;
-    agree = agreed n 2 writtenTo _ (λ c h. alike-either c (holds d c));
+    damage = λ c h. rw (with-one (withOne n) (firstsOf (undamagedBut d)) (cards n d) c refl (first-either (holds d c))) (damage-but c h);
+    agree = agreed n 2 (paidFrom 1) _ (λ c h. alike-either c (holds d c));
     onMajority =
-        rw (count-cong (λ c. committed 0 2 payloadA (historyOf 1 (noFlights c) (undamagedBut d c))) (holds d) n (λ c h. committed-is c (holds d c)))
+        rw (count-cong (λ c. committed 1 2 payloadA (historyOf 1 (noFlights c) (undamagedBut d c))) (holds d) n (λ c h. committed-is c (holds d c)))
         (leb-true (majority n) (count (holds d) n) (seen _ _ (computed .2 .holders)));
     leaderHeld = leader-held;
   }

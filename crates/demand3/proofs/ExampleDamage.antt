@@ -1,5 +1,5 @@
 -- The five and the three stood as demand 3 supposes before their damage, and the damage is of the kind that it supposes.
-use Prim.Native.Nat.{ℕ, zero, suc, _<_}
+use Prim.Native.Nat.{ℕ, zero, suc, _-_, _≤_, _<_}
 use mathlib.Core.Path.{_≡_, refl, sym, _∙_}
 use mathlib.Core.Bool.{Bool, true, false, cond, true≢false, _||_}
 use native.Mathlib.Omega.{arith}
@@ -7,22 +7,23 @@ use lib.Dec.{eqb}
 use Rattle.search.specs.Search.{lowest, count, sum, oneIf}
 use Rattle.slices.specs.Parts.{Bytes}
 use Rattle.slices.specs.Same.{same}
-use Rattle.record.specs.Meaning.{intact, broken}
-use Rattle.image.specs.Image.{Image}
-use Rattle.image.specs.Cluster.{decode}
+use Rattle.record.specs.Meaning.{firstIndex, intact, broken}
+use Rattle.image.specs.Image.{Image, index}
+use Rattle.image.specs.Cluster.{decode, decodeWith}
+use Rattle.image.proofs.ClusterLaws.{with-one}
 use Rattle.image.specs.View.{condition, conditionAt, epochOf, epochAt, isBlank, logLength}
 use Rattle.image.specs.Verdict.{verdictOf, verdictAt}
 use Rattle.planner.specs.Setting.{settingOf}
 use Rattle.planner.specs.Rules.{majority}
-use Rattle.demand3.specs.Supposed.{History, Agree, held, committed, Supposed}
-use Rattle.demand3.specs.Before.{Flight, FlightSlot, arrived, recordAlone, Before, SlotDamage, spared, recordDamaged, entryDamaged, unusedDamaged, headerSpared, headerRefused, Damage, payloadIn, historyOf, DamagedCluster}
+use Rattle.demand3.specs.Supposed.{History, Within, Agree, held, committed, Supposed}
+use Rattle.demand3.specs.Before.{Flight, FlightSlot, arrived, recordAlone, Before, SlotDamage, spared, recordDamaged, entryDamaged, unusedDamaged, headerSpared, headerRefused, Damage, payloadIn, payloadAt, historyOf, firstsOf, DamagedCluster}
 use Rattle.protocol.specs.Call.{named}
 use Rattle.example.specs.Undamaged.{payloadA, payloadB, payloadC, noise, imageWith, leaderImage, imageAB, emptyImage, gapImage, imageA, undamagedFive, undamagedThree}
 use Rattle.example.specs.Damaged.{ofFive, five, damagedCluster}
 use Rattle.example.specs.Waiting.{ofThree, three, waitingCluster}
 use Rattle.demand3.specs.Histories.{inFlightFive, writtenTo, flightsFive, historiesFive, noFlights}
 use Rattle.demand3.proofs.BeforeLaws.{damaged-cluster}
-use Rattle.example.proofs.ComputedLaws.{computed}
+use Rattle.example.proofs.ComputedLaws.{computed, waiting-computed}
 
 -- a stale entry, and noise
 pub stale : (q : Bytes) → intact 1 payloadC ≡ intact 2 q → ⊥
@@ -133,6 +134,18 @@ slots-fifth (suc zero) h = rw (computed .slot-4-1 .rec, computed .slot-4-1 .ent)
 slots-fifth (suc (suc zero)) h = rw (computed .slot-4-2 .rec, computed .slot-4-2 .ent) spared
 slots-fifth (suc (suc (suc k))) h = absurd (omega arith)
 
+firsts-five : (c : ℕ) → firstsOf undamagedFive c ≡ 1
+unfolding undamagedFive leaderImage imageAB emptyImage gapImage imageWith firstIndex
+firsts-five zero = refl
+firsts-five (suc zero) = refl
+firsts-five (suc (suc zero)) = refl
+firsts-five (suc (suc (suc zero))) = refl
+firsts-five (suc (suc (suc (suc c)))) = refl
+
+firsts-three : (c : ℕ) → firstsOf undamagedThree c ≡ 1
+unfolding undamagedThree imageA imageWith firstIndex
+firsts-three c = refl
+
 damage-five : (c : ℕ) → c < 5 → Damage 3 (undamagedFive c) (decode ofFive damagedCluster c)
 unfolding undamagedFive leaderImage imageAB emptyImage gapImage imageWith
 damage-five zero h = record { header = rw (computed .header-0) headerSpared; slots = slots-first }
@@ -150,16 +163,16 @@ one-slot i j d (suc k) h = absurd (omega arith)
 damage-three : (c : ℕ) → c < 3 → Damage 1 (undamagedThree c) (decode ofThree waitingCluster c)
 unfolding undamagedThree imageA imageWith three
 damage-three zero h = record {
-  header = rw (computed .wait-header-0) headerSpared;
-  slots = one-slot (undamagedThree 0) (decode ofThree waitingCluster 0) (rw (computed .wait-0 .rec, computed .wait-0 .ent) (entryDamaged noisy));
+  header = rw (waiting-computed .wait-header-0) headerSpared;
+  slots = one-slot (undamagedThree 0) (decode ofThree waitingCluster 0) (rw (waiting-computed .wait-0 .rec, waiting-computed .wait-0 .ent) (entryDamaged noisy));
 }
 damage-three (suc zero) h = record {
-  header = rw (computed .wait-header-1) headerSpared;
-  slots = one-slot (undamagedThree 1) (decode ofThree waitingCluster 1) (rw (computed .wait-1 .rec, computed .wait-1 .ent) (entryDamaged noisy));
+  header = rw (waiting-computed .wait-header-1) headerSpared;
+  slots = one-slot (undamagedThree 1) (decode ofThree waitingCluster 1) (rw (waiting-computed .wait-1 .rec, waiting-computed .wait-1 .ent) (entryDamaged noisy));
 }
 damage-three (suc (suc zero)) h = record {
-  header = rw (computed .wait-header-2) headerRefused;
-  slots = one-slot (undamagedThree 2) (decode ofThree waitingCluster 2) (rw (computed .wait-2 .rec, computed .wait-2 .ent) spared);
+  header = rw (waiting-computed .wait-header-2) headerRefused;
+  slots = one-slot (undamagedThree 2) (decode ofThree waitingCluster 2) (rw (waiting-computed .wait-2 .rec, waiting-computed .wait-2 .ent) spared);
 }
 damage-three (suc (suc (suc c))) h = absurd (omega arith)
 
@@ -168,29 +181,48 @@ damage-three (suc (suc (suc c))) h = absurd (omega arith)
 unfoldable historiesThree : ℕ → History
 historiesThree c = historyOf 1 (noFlights c) (undamagedThree c)
 
--- every slot of a log has epoch e and the payload that was written there
+-- every slot of a log has epoch e and the payload that was written to its index
 pub record Alike (e : ℕ) (paid : ℕ → Bytes) (h : History) : Type 0 where
-  pub epochs : (k : ℕ) → k < h .length → h .epoch k ≡ e
-  pub payloads : (k : ℕ) → k < h .length → h .payload k ≡ paid k
+  pub epochs : (k : ℕ) → k < h .length → h .epoch (index (h .first) k) ≡ e
+  pub payloads : (k : ℕ) → k < h .length → h .payload (index (h .first) k) ≡ paid (index (h .first) k)
+
+-- so has every index of it
+module _ (e : ℕ) (paid : ℕ → Bytes) (h : History) (a : Alike e paid h) (i j : ℕ) (w : Within i h) (low : h .first ≤ j) (up : j ≤ i) where
+  at : index (h .first) (j - h .first) ≡ j
+  unfolding index
+  at = omega arith
+
+  below : j - h .first < h .length
+  below = omega (arith, w .high)
+
+  epoch-at : h .epoch j ≡ e
+  epoch-at = rw at at (a .epochs (j - h .first) below)
+
+  payload-at : h .payload j ≡ paid j
+  payload-at = rw at at (a .payloads (j - h .first) below)
 
 pub agreed : (n e : ℕ) (paid : ℕ → Bytes) (H : ℕ → History) → ((c : ℕ) → c < n → Alike e paid (H c)) → Agree n H
 unfolding Agree
-agreed n e paid H alike c d k cn dn h g x = record {
-  epochs = λ j b. alike c cn .epochs j (omega arith) ∙ sym (alike d dn .epochs j (omega arith));
-  payloads = λ j b. alike c cn .payloads j (omega arith) ∙ sym (alike d dn .payloads j (omega arith));
+agreed n e paid H alike c d i cn dn h g x = record {
+  epochs = λ j a b u. epoch-at e paid (H c) (alike c cn) i j h a u ∙ sym (epoch-at e paid (H d) (alike d dn) i j g b u);
+  payloads = λ j a b u. payload-at e paid (H c) (alike c cn) i j h a u ∙ sym (payload-at e paid (H d) (alike d dn) i j g (omega arith) u);
 }
 
-alike-leader : Alike 2 writtenTo (historiesFive 0)
-unfolding historiesFive historyOf flightsFive inFlightFive undamagedFive leaderImage imageWith epochAt epochOf logLength lowest isBlank payloadIn writtenTo
+-- what epoch 2 wrote to each index of a log that begins at 1
+abbrev pub paidFrom : ℕ → ℕ → Bytes
+paidFrom first i = writtenTo (i - first)
+
+alike-leader : Alike 2 (paidFrom 1) (historiesFive 0)
+unfolding historiesFive historyOf flightsFive inFlightFive undamagedFive leaderImage imageWith epochAt epochOf logLength lowest isBlank payloadIn payloadAt writtenTo index firstIndex
 alike-leader = record { epochs = epochs; payloads = payloads }
   where
-    epochs : (k : ℕ) → k < 3 → historiesFive 0 .epoch k ≡ 2
+    epochs : (k : ℕ) → k < 3 → historiesFive 0 .epoch (index 1 k) ≡ 2
     epochs zero h = refl
     epochs (suc zero) h = refl
     epochs (suc (suc zero)) h = refl
     epochs (suc (suc (suc k))) h = absurd (omega arith)
 
-    payloads : (k : ℕ) → k < 3 → historiesFive 0 .payload k ≡ writtenTo k
+    payloads : (k : ℕ) → k < 3 → historiesFive 0 .payload (index 1 k) ≡ paidFrom 1 (index 1 k)
     payloads zero h = refl
     payloads (suc zero) h = refl
     payloads (suc (suc zero)) h = refl
@@ -200,55 +232,55 @@ either : (u : Bool) (p : Bytes) → cond u p p ≡ p
 either true p = refl
 either false p = refl
 
-alike-AB : (t : ℕ → Bool) → Alike 2 writtenTo (historyOf 3 (record { inFlight = t; payload = writtenTo }) imageAB)
-unfolding historyOf imageAB imageWith epochAt epochOf logLength lowest isBlank payloadIn writtenTo
+alike-AB : (t : ℕ → Bool) → Alike 2 (paidFrom 1) (historyOf 3 (record { inFlight = t; payload = writtenTo }) imageAB)
+unfolding historyOf imageAB imageWith epochAt epochOf logLength lowest isBlank payloadIn payloadAt writtenTo index firstIndex
 alike-AB t = record { epochs = epochs; payloads = payloads }
   where
     H : History
     H = historyOf 3 (record { inFlight = t; payload = writtenTo }) imageAB
 
-    epochs : (k : ℕ) → k < 2 → H .epoch k ≡ 2
+    epochs : (k : ℕ) → k < 2 → H .epoch (index 1 k) ≡ 2
     epochs zero h = refl
     epochs (suc zero) h = refl
     epochs (suc (suc k)) h = absurd (omega arith)
 
-    payloads : (k : ℕ) → k < 2 → H .payload k ≡ writtenTo k
+    payloads : (k : ℕ) → k < 2 → H .payload (index 1 k) ≡ paidFrom 1 (index 1 k)
     payloads zero h = either (t 0) payloadA
     payloads (suc zero) h = either (t 1) payloadB
     payloads (suc (suc k)) h = absurd (omega arith)
 
-pub alike-empty : (m : ℕ) (f : Flight) → Alike 2 writtenTo (historyOf (suc m) f emptyImage)
+pub alike-empty : (m : ℕ) (f : Flight) → Alike 2 (paidFrom 1) (historyOf (suc m) f emptyImage)
 unfolding historyOf emptyImage imageWith logLength lowest isBlank
 alike-empty m f = record { epochs = λ k h. absurd (omega arith); payloads = λ k h. absurd (omega arith) }
 
-alike-gap : Alike 2 writtenTo (historiesFive 4)
-unfolding historiesFive historyOf flightsFive inFlightFive undamagedFive gapImage imageWith epochAt epochOf logLength lowest isBlank payloadIn writtenTo
+alike-gap : Alike 2 (paidFrom 1) (historiesFive 4)
+unfolding historiesFive historyOf flightsFive inFlightFive undamagedFive gapImage imageWith epochAt epochOf logLength lowest isBlank payloadIn payloadAt writtenTo index firstIndex
 alike-gap = record { epochs = epochs; payloads = payloads }
   where
-    epochs : (k : ℕ) → k < 1 → historiesFive 4 .epoch k ≡ 2
+    epochs : (k : ℕ) → k < 1 → historiesFive 4 .epoch (index 1 k) ≡ 2
     epochs zero h = refl
     epochs (suc k) h = absurd (omega arith)
 
-    payloads : (k : ℕ) → k < 1 → historiesFive 4 .payload k ≡ writtenTo k
+    payloads : (k : ℕ) → k < 1 → historiesFive 4 .payload (index 1 k) ≡ paidFrom 1 (index 1 k)
     payloads zero h = refl
     payloads (suc k) h = absurd (omega arith)
 
-pub alike-A : (t : ℕ → Bool) → Alike 2 writtenTo (historyOf 1 (record { inFlight = t; payload = writtenTo }) imageA)
-unfolding historyOf imageA imageWith epochAt epochOf logLength lowest isBlank payloadIn writtenTo
+pub alike-A : (t : ℕ → Bool) → Alike 2 (paidFrom 1) (historyOf 1 (record { inFlight = t; payload = writtenTo }) imageA)
+unfolding historyOf imageA imageWith epochAt epochOf logLength lowest isBlank payloadIn payloadAt writtenTo index firstIndex
 alike-A t = record { epochs = epochs; payloads = payloads }
   where
     H : History
     H = historyOf 1 (record { inFlight = t; payload = writtenTo }) imageA
 
-    epochs : (k : ℕ) → k < 1 → H .epoch k ≡ 2
+    epochs : (k : ℕ) → k < 1 → H .epoch (index 1 k) ≡ 2
     epochs zero h = refl
     epochs (suc k) h = absurd (omega arith)
 
-    payloads : (k : ℕ) → k < 1 → H .payload k ≡ writtenTo k
+    payloads : (k : ℕ) → k < 1 → H .payload (index 1 k) ≡ paidFrom 1 (index 1 k)
     payloads zero h = either (t 0) payloadA
     payloads (suc k) h = absurd (omega arith)
 
-alike-five : (c : ℕ) → c < 5 → Alike 2 writtenTo (historiesFive c)
+alike-five : (c : ℕ) → c < 5 → Alike 2 (paidFrom 1) (historiesFive c)
 unfolding undamagedFive flightsFive historiesFive
 alike-five zero h = alike-leader
 alike-five (suc zero) h = alike-AB (inFlightFive 1)
@@ -257,32 +289,32 @@ alike-five (suc (suc (suc zero))) h = alike-AB (inFlightFive 3)
 alike-five (suc (suc (suc (suc zero)))) h = alike-gap
 alike-five (suc (suc (suc (suc (suc c))))) h = absurd (omega arith)
 
-alike-three : (c : ℕ) → c < 3 → Alike 2 writtenTo (historiesThree c)
+alike-three : (c : ℕ) → c < 3 → Alike 2 (paidFrom 1) (historiesThree c)
 unfolding undamagedThree noFlights historiesThree
 alike-three c h = alike-A (noFlights c .inFlight)
 
 -- ---- all of it
 
-pub damaged-five : DamagedCluster (named five) undamagedFive flightsFive (decode ofFive damagedCluster) 0 2 payloadA
-unfolding five settingOf majority historiesFive count sum oneIf committed held historyOf undamagedFive leaderImage imageAB emptyImage gapImage imageWith flightsFive inFlightFive epochAt epochOf logLength lowest isBlank payloadIn payloadA same
+pub damaged-five : DamagedCluster (named five) undamagedFive flightsFive (decodeWith ofFive (firstsOf undamagedFive) damagedCluster) 1 2 payloadA
+unfolding five settingOf majority historiesFive count sum oneIf committed held historyOf undamagedFive leaderImage imageAB emptyImage gapImage imageWith flightsFive inFlightFive epochAt epochOf logLength lowest isBlank payloadIn payloadAt payloadA same firstIndex
 damaged-five = record {
   before = before-five;
-  damage = damage-five;
-  agree = agreed 5 2 writtenTo historiesFive alike-five;
+  damage = λ c h. rw (with-one ofFive (firstsOf undamagedFive) damagedCluster c refl (firsts-five c)) (damage-five c h);
+  agree = agreed 5 2 (paidFrom 1) historiesFive alike-five;
   onMajority = omega arith;
   leaderHeld = refl;
 }
 
-pub supposed-five : Supposed (named five) (decode ofFive damagedCluster) historiesFive 0 2 payloadA
+pub supposed-five : Supposed (named five) (decodeWith ofFive (firstsOf undamagedFive) damagedCluster) historiesFive 1 2 payloadA
 unfolding five settingOf historiesFive
-supposed-five = damaged-cluster (named five) undamagedFive flightsFive (decode ofFive damagedCluster) 0 2 payloadA damaged-five
+supposed-five = damaged-cluster (named five) undamagedFive flightsFive (decodeWith ofFive (firstsOf undamagedFive) damagedCluster) 1 2 payloadA damaged-five
 
-pub damaged-three : DamagedCluster (named three) undamagedThree noFlights (decode ofThree waitingCluster) 0 2 payloadA
-unfolding three settingOf majority historiesThree count sum oneIf committed held historyOf undamagedThree imageA imageWith noFlights epochAt epochOf logLength lowest isBlank payloadIn payloadA same
+pub damaged-three : DamagedCluster (named three) undamagedThree noFlights (decodeWith ofThree (firstsOf undamagedThree) waitingCluster) 1 2 payloadA
+unfolding three settingOf majority historiesThree count sum oneIf committed held historyOf undamagedThree imageA imageWith noFlights epochAt epochOf logLength lowest isBlank payloadIn payloadAt payloadA same firstIndex
 damaged-three = record {
   before = before-three;
-  damage = damage-three;
-  agree = agreed 3 2 writtenTo historiesThree alike-three;
+  damage = λ c h. rw (with-one ofThree (firstsOf undamagedThree) waitingCluster c refl (firsts-three c)) (damage-three c h);
+  agree = agreed 3 2 (paidFrom 1) historiesThree alike-three;
   onMajority = omega arith;
   leaderHeld = refl;
 }

@@ -15,3 +15,4 @@ pub mod ExampleCalls
 pub mod ExampleDamage
 pub mod EvenDamage
 pub mod EarliestLaws
+pub mod LaterDamage

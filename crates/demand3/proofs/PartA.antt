@@ -5,7 +5,13 @@ use mathlib.Core.Bool.{false}
 use mathlib.Core.List.{List}
 use mathlib.Core.Option.{none}
 use native.Mathlib.Omega.{arith}
-use Rattle.slices.specs.Parts.{Bytes}
+use Rattle.slices.specs.Parts.{Bytes, part}
+use Rattle.record.specs.declared.Shape.{Shape}
+use Rattle.record.specs.Layout.{headerSize}
+use Rattle.record.specs.Meaning.{writeHeader}
+use Rattle.record.proofs.HeaderLaws.{write-read-header}
+use Rattle.image.specs.Cluster.{imagePart, decode}
+use Rattle.image.proofs.DecodeLaws.{header-there}
 use Rattle.planner.specs.Setting.{settingOf}
 use Rattle.planner.specs.Rules.{Ready, answer}
 use Rattle.planner.specs.Plan.{viewsIn, lentRefusal, planRefusal}
@@ -16,8 +22,9 @@ use Rattle.protocol.specs.CallResult.{Result, refused, waiting, recovered, runR
 use Rattle.demand3.specs.Claim.{PartA}
 use Rattle.protocol.proofs.CallLaws.{Standing, isRefused, isWaiting, isReady, standing, accepted, run-bytes}
 use Rattle.demand3.proofs.ReadableLaws.{readable-view}
+use Rattle.protocol.proofs.FirstLaws.{reach-header}
 use Rattle.protocol.proofs.Reached.{After}
-use Rattle.demand3.proofs.AfterCalls.{unchanged}
+use Rattle.demand3.proofs.AfterCalls.{calls-reach, unchanged}
 use Rattle.demand3.proofs.AfterCalls as calls
 use Rattle.demand3.proofs.ResultLaws.{unspent-none}
 use Rattle.protocol.proofs.StillLaws.{Still, still-refused, still-waiting}
@@ -30,6 +37,8 @@ same-still N b r s q = record {
   planned = λ i j. refl;
   refusedSame = λ k e. refl;
   waitingSame = λ k e. refl;
+  refusals = refl;
+  headers = λ c cn. refl;
   size = refl;
   away = λ c cn f. refl;
   readables = λ c cn. refl;
@@ -51,7 +60,17 @@ pub none-left : (N : Numbers) (b : Bytes) → refusalIn N b ≡ 0 → (l : ℕ) 
 none-left N b e l x j u =
     unspent-none (storesBytes (named N) j b) (nextIn (named N) (stepsBytes (named N) j b)) (ap isSpent (sym (ready-run N b e l x j)) ∙ u)
 
-module _ (N : Numbers) (b₀ b : Bytes) (e : refusalIn N b₀ ≡ 0) (l : ℕ) (x : answer (named N) (viewsIn (named N) b₀) ≡ Ready l) (a : After N b₀ b) where
+-- a header that means the same is the same bytes
+header-bytes : (Z : Shape) (a b : Bytes) (c : ℕ) → decode Z a c .header ≡ decode Z b c .header
+    → part (imagePart Z a c) 0 (headerSize Z) ≡ part (imagePart Z b c) 0 (headerSize Z)
+unfolding decode
+header-bytes Z a b c e =
+    sym (write-read-header Z (suc c) (part (imagePart Z a c) 0 (headerSize Z)))
+    ∙ ap (writeHeader Z (suc c)) (sym (header-there Z (suc c) (imagePart Z a c)) ∙ e ∙ header-there Z (suc c) (imagePart Z b c))
+    ∙ write-read-header Z (suc c) (part (imagePart Z b c) 0 (headerSize Z))
+
+module _ (N : Numbers) (b₀ b : Bytes) (e : refusalIn N b₀ ≡ 0) (l : ℕ) (x : answer (named N) (viewsIn (named N) b₀) ≡ Ready l) (a : After N b₀ b)
+    (h : (c : ℕ) → decode (N .shape) b c .header ≡ decode (N .shape) b₀ c .header) where
   y : answer (named N) (viewsIn (named N) b) ≡ Ready l
   y = a .facts .answers ∙ x
 
@@ -76,6 +95,8 @@ module _ (N : Numbers) (b₀ b : Bytes) (e : refusalIn N b₀ ≡ 0) (l : ℕ) (
         planned = plan-same N b₀ b (a .accepts ∙ sym e) (a .facts .answers);
         refusedSame = λ r z. absurd (let w : _≡_ {A = ℕ} 0 1 = cc in omega arith);
         waitingSame = λ k z. absurd (let w : _≡_ {A = ℕ} 0 1 = cc in omega arith);
+        refusals = a .accepts ∙ sym e;
+        headers = λ c cn. header-bytes (N .shape) b b₀ c (h c);
         size = a .size ∙ sym (accepted N b₀ e .size);
         away = λ c cn f. a .facts .away c cn (sym (readable-view N b₀ (accepted N b₀ e) c cn) ∙ f);
         readables = λ c cn. readable-view N b (accepted N b (a .accepts)) c cn ∙ a .facts .readables c ∙ sym (readable-view N b₀ (accepted N b₀ e) c cn);
@@ -86,9 +107,12 @@ module _ (N : Numbers) (b₀ b : Bytes) (e : refusalIn N b₀ ≡ 0) (l : ℕ) (
       }
 
 pub part-a : (N : Numbers) {qs : List Request} {b₀ b : Bytes} → CallList N qs b₀ b → PartA N b₀ b
+unfolding settingOf
 part-a N {b₀ = b₀} {b = b} list = go (standing N b₀)
   where
     go : Standing N b₀ → PartA N b₀ b
     go (isRefused h) = rw (unchanged N h list) (same-still N b₀ (refused (refusalIn N b₀)) (still-refused N b₀ h) (refused-quiet (refusalIn N b₀)))
     go (isWaiting e k x) = rw (calls.after N e list .facts .waiting k x) (same-still N b₀ (waiting (suc k)) (still-waiting N b₀ e k x) (waiting-quiet (suc k)))
-    go (isReady e l x) = ready-a N b₀ b e l x (calls.after N e list)
+    go (isReady e l x) =
+        let y = accepted N b₀ e in
+        ready-a N b₀ b e l x (calls.after N e list) (reach-header (named N) (decode (N .shape) b₀) (calls-reach N (y .low) (y .size) list .reach))

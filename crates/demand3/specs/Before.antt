@@ -1,11 +1,11 @@
 -- A cluster before the damage, in document 01's words, and what damage makes of it.
-use Prim.Native.Nat.{ℕ, _≤_, _<_}
+use Prim.Native.Nat.{ℕ, _-_, _≤_, _<_}
 use mathlib.Core.Path.{_≡_}
 use mathlib.Core.Bool.{Bool, true, false, cond}
 use mathlib.Core.List.{[]}
 use Rattle.search.specs.Search.{count}
 use Rattle.slices.specs.Parts.{Bytes}
-use Rattle.record.specs.Meaning.{Header, improper, Record, good, blank, bad, Entry, intact, broken}
+use Rattle.record.specs.Meaning.{Header, improper, firstIndex, Record, good, blank, bad, Entry, intact, broken}
 use Rattle.image.specs.Image.{Image}
 use Rattle.image.specs.Cluster.{Cluster}
 use Rattle.image.specs.View.{logLength, epochAt}
@@ -59,20 +59,29 @@ unfoldable pub payloadIn : Entry → Bytes
 payloadIn (intact e p) = p
 payloadIn (broken b) = []
 
--- the log that a replica held, what was in flight included
+-- what slot k held, or was being written to it
+unfoldable pub payloadAt : Flight → Image → ℕ → Bytes
+payloadAt f i k = cond (f .inFlight k) (f .payload k) (payloadIn (i .entries k))
+
+-- the log that a replica held, what was in flight included, from the index that its header gave on
 unfoldable pub historyOf : ℕ → Flight → Image → History
 historyOf m f i = record {
+  first = firstIndex (i .header);
   length = logLength m i;
-  epoch = epochAt i;
-  payload = λ k. cond (f .inFlight k) (f .payload k) (payloadIn (i .entries k));
-  inFlight = f .inFlight;
+  epoch = λ j. epochAt i (j - firstIndex (i .header));
+  payload = λ j. payloadAt f i (j - firstIndex (i .header));
+  inFlight = λ j. f .inFlight (j - firstIndex (i .header));
 }
 
--- what demand 3 supposes of payload p at slot k under epoch e
-pub record DamagedCluster (S : Setting) (F : Cluster) (f : ℕ → Flight) (G : Cluster) (k e : ℕ) (p : Bytes) : Type 0 where
-  -- cluster F before the damage, with f in flight, became G
+-- the indices at which the logs of a cluster began
+abbrev pub firstsOf : Cluster → ℕ → ℕ
+firstsOf F c = firstIndex (F c .header)
+
+-- what demand 3 supposes of payload p at index j under epoch e
+pub record DamagedCluster (S : Setting) (F : Cluster) (f : ℕ → Flight) (G : Cluster) (j e : ℕ) (p : Bytes) : Type 0 where
+  -- cluster F before the damage, with f in flight, became G, which is taken apart under the indices at which the logs of F began
   pub before : (c : ℕ) → c < S .shape .n → Before (S .shape .m) (f c) (F c)
   pub damage : (c : ℕ) → c < S .shape .n → Damage (S .shape .m) (F c) (G c)
   pub agree : Agree (S .shape .n) (λ c. historyOf (S .shape .m) (f c) (F c))
-  pub onMajority : majority (S .shape .n) ≤ count (λ c. committed k e p (historyOf (S .shape .m) (f c) (F c))) (S .shape .n)
-  pub leaderHeld : held k e (historyOf (S .shape .m) (f (S .leader)) (F (S .leader))) ≡ true
+  pub onMajority : majority (S .shape .n) ≤ count (λ c. committed j e p (historyOf (S .shape .m) (f c) (F c))) (S .shape .n)
+  pub leaderHeld : held j e (historyOf (S .shape .m) (f (S .leader)) (F (S .leader))) ≡ true

@@ -6,7 +6,7 @@ use mathlib.Core.Bool.{Bool, true, false, _&&_}
 use lib.Dec.{eqb}
 use lib.ListN.{length}
 use Rattle.slices.specs.Parts.{Bytes, part}
-use Rattle.record.specs.Layout.{recordSize, entrySize, recordBytes, entryBytes}
+use Rattle.record.specs.Layout.{headerSize, recordSize, entrySize, recordBytes, entryBytes}
 use Rattle.record.specs.Meaning.{intact, readEntry}
 use Rattle.image.specs.Image.{index, recordAt, entryAt}
 use Rattle.image.specs.View.{readRefusal}
@@ -30,15 +30,19 @@ entryIn S b c k = part b (imageAt (S .shape) c + entryAt (S .shape) k) entrySize
 unfoldable pub recordIn : Setting → Bytes → ℕ → ℕ → Bytes
 recordIn S b c k = part b (imageAt (S .shape) c + recordAt (S .shape) k) recordSize
 
--- slot k of replica c is used under epoch e
-pub record UsedUnder (S : Setting) (b : Bytes) (c k e : ℕ) : Type 0 where
-  pub within : k < viewsIn S b c .length
-  pub epoch : viewsIn S b c .epoch k ≡ e
+-- index i of replica c is used under epoch e, at some slot
+pub record UsedUnder (S : Setting) (b : Bytes) (c i e : ℕ) : Type 0 where
+  pub slot : ℕ
+  pub at : index (firstAt (S .shape) b c) slot ≡ i
+  pub within : slot < viewsIn S b c .length
+  pub epoch : viewsIn S b c .epoch slot ≡ e
 
--- record and entry are the writer's
-pub record Stands (S : Setting) (b : Bytes) (c k e : ℕ) (p : Bytes) : Type 0 where
-  pub rec : recordIn S b c k ≡ recordBytes e (index (firstAt (S .shape) b c) k)
-  pub ent : entryIn S b c k ≡ entryBytes e (index (firstAt (S .shape) b c) k) p
+-- record and entry of index i are the writer's, at some slot
+pub record Stands (S : Setting) (b : Bytes) (c i e : ℕ) (p : Bytes) : Type 0 where
+  pub slot : ℕ
+  pub at : index (firstAt (S .shape) b c) slot ≡ i
+  pub rec : recordIn S b c slot ≡ recordBytes e i
+  pub ent : entryIn S b c slot ≡ entryBytes e i p
 
 -- a call that ends by itself
 pub record Uncut (N : Numbers) (b : Bytes) : Type 0 where
@@ -68,6 +72,10 @@ pub record PartA (N : Numbers) (b₀ b : Bytes) : Type 0 where
   pub planned : (bytes rows : ℕ) → callResult N (plan bytes rows) b ≡ callResult N (plan bytes rows) b₀
   pub refusedSame : (r : ℕ) → callResult N (planning N) b₀ ≡ refused r → b ≡ b₀
   pub waitingSame : (k : ℕ) → callResult N (planning N) b₀ ≡ waiting k → b ≡ b₀
+  -- every refusal of planning is as it was at first, and every header too: so 21 neither comes nor goes (02, Six)
+  pub refusals : refusalIn N b ≡ refusalIn N b₀
+  pub headers : (c : ℕ) → c < N .shape .n
+      → part (imagePart (N .shape) b c) 0 (headerSize (N .shape)) ≡ part (imagePart (N .shape) b₀ c) 0 (headerSize (N .shape))
   -- replicas away or unreadable keep every byte; the same replicas are readable
   pub size : length b ≡ length b₀
   pub away : (c : ℕ) → c < N .shape .n → readable N b₀ c ≡ false → imagePart (N .shape) b c ≡ imagePart (N .shape) b₀ c
@@ -87,26 +95,31 @@ pub record Waits (N : Numbers) (b₀ b : Bytes) : Type 0 where
   pub runAnswer : (j : ℕ) → callResult N (run j) b ≡ waiting slot
   pub same : b ≡ b₀
 
--- of payload p at slot k under epoch e
-pub record PartB (N : Numbers) (b₀ : Bytes) (H : ℕ → History) (k e : ℕ) (p : Bytes) (b : Bytes) : Type 0 where
-  -- a replica whose log held it keeps its slot used under e, and the entry's bytes if they were intact with e
-  pub used : (c : ℕ) → c < N .shape .n → held k e (H c) ≡ true → UsedUnder (named N) b c k e
-  pub entry : (c : ℕ) (q : Bytes) → c < N .shape .n → held k e (H c) ≡ true → readEntry (index (firstAt (N .shape) b₀ c) k) (entryIn (named N) b₀ c k) ≡ intact e q
-      → entryIn (named N) b c k ≡ entryIn (named N) b₀ c k
-  -- any entry there intact with e has the payload: where a log held it, and where the slot is used under e
-  pub heldPayload : (c : ℕ) (q : Bytes) → c < N .shape .n → held k e (H c) ≡ true → readEntry (index (firstAt (N .shape) b c) k) (entryIn (named N) b c k) ≡ intact e q → q ≡ p
-  pub usedPayload : (c : ℕ) (q : Bytes) → c < N .shape .n → UsedUnder (named N) b c k e → readEntry (index (firstAt (N .shape) b c) k) (entryIn (named N) b c k) ≡ intact e q → q ≡ p
+-- of payload p at index i under epoch e. Slot k of a log that began at index f has index f + k
+pub record PartB (N : Numbers) (b₀ : Bytes) (H : ℕ → History) (i e : ℕ) (p : Bytes) (b : Bytes) : Type 0 where
+  -- a readable present replica whose log held it keeps it used under e; each whose log held it keeps the entry's bytes if they were intact
+  -- with e. (The others keep every byte: `away`. Where a header is damaged no index can be read)
+  pub used : (c : ℕ) → c < N .shape .n → held i e (H c) ≡ true → readable N b₀ c ≡ true → UsedUnder (named N) b c i e
+  pub entry : (c k : ℕ) (q : Bytes) → c < N .shape .n → held i e (H c) ≡ true → index (H c .first) k ≡ i
+      → readEntry i (entryIn (named N) b₀ c k) ≡ intact e q → entryIn (named N) b c k ≡ entryIn (named N) b₀ c k
+  -- any entry there intact with e has the payload: where a log held it, and where it is used under e
+  pub heldPayload : (c k : ℕ) (q : Bytes) → c < N .shape .n → held i e (H c) ≡ true → index (H c .first) k ≡ i
+      → readEntry i (entryIn (named N) b c k) ≡ intact e q → q ≡ p
+  pub usedPayload : (c : ℕ) (q : Bytes) → c < N .shape .n → readable N b₀ c ≡ true → (u : UsedUnder (named N) b c i e)
+      → readEntry i (entryIn (named N) b c (u .slot)) ≡ intact e q → q ≡ p
   -- the leader's entry is faulty and planning is not refused: with a copy within reach and no other slot that stays waiting the plan is
   -- ready; with no copy within reach it waits
-  pub isReady : (c : ℕ) → refusalIn N b₀ ≡ 0 → isFaulty (viewsIn (named N) b₀ (named N .leader) .condition k) ≡ true
+  pub isReady : (c k : ℕ) → refusalIn N b₀ ≡ 0 → index (firstAt (N .shape) b₀ (named N .leader)) k ≡ i
+      → isFaulty (viewsIn (named N) b₀ (named N .leader) .condition k) ≡ true
       → c < N .shape .n → have (named N) (viewsIn (named N) b₀) k c ≡ true
       → ((j : ℕ) → j < end (named N) (viewsIn (named N) b₀) → (j ≡ k → ⊥) → isWait (rule (named N) (viewsIn (named N) b₀) j) ≡ false)
       → callResult N (planning N) b₀ ≡ ready (end (named N) (viewsIn (named N) b₀))
-  pub waits : refusalIn N b₀ ≡ 0 → isFaulty (viewsIn (named N) b₀ (named N .leader) .condition k) ≡ true
+  pub waits : (k : ℕ) → refusalIn N b₀ ≡ 0 → index (firstAt (N .shape) b₀ (named N .leader)) k ≡ i
+      → isFaulty (viewsIn (named N) b₀ (named N .leader) .condition k) ≡ true
       → ((c : ℕ) → c < N .shape .n → have (named N) (viewsIn (named N) b₀) k c ≡ false) → Waits N b₀ b
   -- the plan is ready: after every run that is not spent it stands on every readable present replica; and at once, if a step answers that no
   -- store is outstanding
   pub mended : (l j : ℕ) → callResult N (planning N) b₀ ≡ ready l → isSpent (callResult N (run j) b) ≡ false
-      → (c : ℕ) → c < N .shape .n → readable N b₀ c ≡ true → Stands (named N) (callBytes N (run j) b) c k e p
+      → (c : ℕ) → c < N .shape .n → readable N b₀ c ≡ true → Stands (named N) (callBytes N (run j) b) c i e p
   pub atRest : callResult N step b ≡ recovered 0
-      → (c : ℕ) → c < N .shape .n → readable N b₀ c ≡ true → Stands (named N) b c k e p
+      → (c : ℕ) → c < N .shape .n → readable N b₀ c ≡ true → Stands (named N) b c i e p

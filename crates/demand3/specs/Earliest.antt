@@ -7,7 +7,7 @@ use mathlib.Core.Bool.{Bool, true, false, cond, _||_}
 use lib.Dec.{eqb, ltb}
 use Rattle.search.specs.Search.{count}
 use Rattle.image.specs.View.{View, isSize}
-use Rattle.image.specs.Cluster.{Cluster, decode}
+use Rattle.image.specs.Cluster.{Cluster, decodeWith}
 use Rattle.planner.specs.Setting.{Setting}
 use Rattle.planner.specs.Rules.{majority, mayTruncate, isFaulty, dontHave, donor, Rule, Keep, Fetch, Truncate, Wait, rule}
 use Rattle.planner.specs.Plan.{viewsIn}
@@ -16,7 +16,7 @@ use Rattle.protocol.specs.CallResult.{waiting}
 use Rattle.example.specs.Undamaged.{payloadA, emptyImage, imageA}
 use Rattle.starred.specs.Cards.{withOne}
 use Rattle.starred.specs.Sizes.{asked, cards, planned}
-use Rattle.demand3.specs.Before.{DamagedCluster}
+use Rattle.demand3.specs.Before.{firstsOf, DamagedCluster}
 use Rattle.demand3.specs.Histories.{noFlights}
 
 -- the rules with another test of n and the number of don't-haves
@@ -33,7 +33,7 @@ undamagedBut d c = cond (eqb c 0 || ltb d c) imageA emptyImage
 -- n replicas, d don't-haves: A stood committed on a majority, the plan waits for it, and by the other test it is truncated
 pub record TruncatesCommitted (test : ℕ → ℕ → Bool) (n d : ℕ) : Type 0 where
   pub accepted : refusalIn (asked n d) (cards n d) ≡ 0
-  pub committed : DamagedCluster (named (asked n d)) (undamagedBut d) noFlights (decode (withOne n) (cards n d)) 0 2 payloadA
+  pub committed : DamagedCluster (named (asked n d)) (undamagedBut d) noFlights (decodeWith (withOne n) (firstsOf (undamagedBut d)) (cards n d)) 1 2 payloadA
   pub lacking : count (dontHave (named (asked n d)) (viewsIn (named (asked n d)) (cards n d)) 0) n ≡ d
   pub waits : planned n d ≡ waiting 1
   pub truncated : ruleBy test (named (asked n d)) (viewsIn (named (asked n d)) (cards n d)) 0 ≡ Truncate

@@ -8,3 +8,5 @@ pub mod Demand3
 pub mod Histories
 pub mod Played
 pub mod Earliest
+pub mod LaterPlayed
+pub mod HeaderNeeded

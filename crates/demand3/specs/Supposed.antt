@@ -1,18 +1,20 @@
--- What demand 3 supposes, over histories: for each replica the slots whose record was there at the power failure.
-use Prim.Native.Nat.{ℕ, _≤_, _<_}
+-- What demand 3 supposes, over histories: for each replica the slots whose record was there at the power failure, by their indices (02, Six).
+use Prim.Native.Nat.{ℕ, _+_, _≤_, _<_}
 use mathlib.Core.Path.{_≡_}
 use mathlib.Core.Bool.{Bool, true, not, _&&_}
-use lib.Dec.{eqb, ltb}
+use lib.Dec.{eqb, leb, ltb}
 use Rattle.search.specs.Search.{count}
 use Rattle.slices.specs.Parts.{Bytes}
 use Rattle.slices.specs.Same.{same}
-use Rattle.record.specs.Meaning.{Record, good, blank, bad, Entry, intact}
-use Rattle.image.specs.Image.{Image}
+use Rattle.record.specs.Meaning.{Header, proper, improper, Record, good, blank, bad, Entry, intact}
+use Rattle.image.specs.Image.{Image, index}
 use Rattle.image.specs.Cluster.{Cluster}
 use Rattle.planner.specs.Setting.{Setting}
 use Rattle.planner.specs.Rules.{majority}
 
+-- a log of so many slots, from this index on
 pub record History : Type 0 where
+  pub first : ℕ
   pub length : ℕ
   pub epoch : ℕ → ℕ
   pub payload : ℕ → Bytes
@@ -24,31 +26,45 @@ pub data DamagedSlot (e : ℕ) (p : Bytes) : Record → Entry → Type 0 where
   recordBad : {b : Bytes} → DamagedSlot e p (bad b) (intact e p)
   entryBad : {x : Entry} → ((q : Bytes) → x ≡ intact e q → ⊥) → DamagedSlot e p (good e) x
 
--- the record of the first slot past the history is blank; entries there, later slots and the header are free
+-- the header is the history's own, or one that is refused by 4. No other good header: it would give another index to every slot
+pub data DamagedHeader (first : ℕ) : Header → Type 0 where
+  ownHeader : DamagedHeader first (proper first)
+  noHeader : {b : Bytes} → DamagedHeader first (improper b)
+
+-- an image, taken apart under the history's first index. The record of the first slot past the history is blank; entries there and later
+-- slots are free
 pub record Damaged (m : ℕ) (h : History) (i : Image) : Type 0 where
   pub fits : h .length ≤ m
-  pub used : (k : ℕ) → k < h .length → DamagedSlot (h .epoch k) (h .payload k) (i .records k) (i .entries k)
+  pub used : (k : ℕ) → k < h .length
+      → DamagedSlot (h .epoch (index (h .first) k)) (h .payload (index (h .first) k)) (i .records k) (i .entries k)
   pub unused : h .length < m → i .records (h .length) ≡ blank
 
--- two logs with the same epoch at one slot hold the same pairs there and at every lower slot
-pub record SameUpTo (k : ℕ) (h g : History) : Type 0 where
-  pub epochs : (j : ℕ) → j ≤ k → h .epoch j ≡ g .epoch j
-  pub payloads : (j : ℕ) → j ≤ k → h .payload j ≡ g .payload j
+-- the history has a slot of index i
+pub record Within (i : ℕ) (h : History) : Type 0 where
+  pub low : h .first ≤ i
+  pub high : i < h .first + h .length
+
+-- two logs with the same epoch at one index hold the same pairs there and at every lower index that both keep
+pub record SameUpTo (i : ℕ) (h g : History) : Type 0 where
+  pub epochs : (j : ℕ) → h .first ≤ j → g .first ≤ j → j ≤ i → h .epoch j ≡ g .epoch j
+  pub payloads : (j : ℕ) → h .first ≤ j → g .first ≤ j → j ≤ i → h .payload j ≡ g .payload j
 
 unfoldable pub Agree : ℕ → (ℕ → History) → Type 0
-Agree n H = (c d k : ℕ) → c < n → d < n → k < H c .length → k < H d .length → H c .epoch k ≡ H d .epoch k → SameUpTo k (H c) (H d)
+Agree n H = (c d i : ℕ) → c < n → d < n → Within i (H c) → Within i (H d) → H c .epoch i ≡ H d .epoch i → SameUpTo i (H c) (H d)
 
--- the history holds slot k under epoch e, in flight or not
+-- the history holds index i under epoch e, in flight or not
 unfoldable pub held : ℕ → ℕ → History → Bool
-held k e h = ltb k (h .length) && eqb (h .epoch k) e
+held i e h = leb (h .first) i && (ltb i (h .first + h .length) && eqb (h .epoch i) e)
 
 -- 01's stored: it holds payload p there, and that was not in flight
 unfoldable pub committed : ℕ → ℕ → Bytes → History → Bool
-committed k e p h = held k e h && (same (h .payload k) p && not (h .inFlight k))
+committed i e p h = held i e h && (same (h .payload i) p && not (h .inFlight i))
 
--- what demand 3 supposes of a payload p at slot k under epoch e: it stood committed on a majority of all n, and the leader's log held it
-pub record Supposed (S : Setting) (F : Cluster) (H : ℕ → History) (k e : ℕ) (p : Bytes) : Type 0 where
+-- what demand 3 supposes of a payload p at index i under epoch e: it stood committed on a majority of all n, each with a log of its own first
+-- index, and the leader's log held it
+pub record Supposed (S : Setting) (F : Cluster) (H : ℕ → History) (i e : ℕ) (p : Bytes) : Type 0 where
+  pub headers : (c : ℕ) → c < S .shape .n → DamagedHeader (H c .first) (F c .header)
   pub damaged : (c : ℕ) → c < S .shape .n → Damaged (S .shape .m) (H c) (F c)
   pub agree : Agree (S .shape .n) H
-  pub onMajority : majority (S .shape .n) ≤ count (λ c. committed k e p (H c)) (S .shape .n)
-  pub leaderHeld : held k e (H (S .leader)) ≡ true
+  pub onMajority : majority (S .shape .n) ≤ count (λ c. committed i e p (H c)) (S .shape .n)
+  pub leaderHeld : held i e (H (S .leader)) ≡ true

@@ -1,6 +1,8 @@
 // Demand 3: every list of plans, steps and runs with power failures anywhere.
 ghost use Rattle.demand3.specs.Demand3.{Demand3};
 ghost use Rattle.demand3.specs.Earliest.{Earliest};
+ghost use Rattle.demand3.specs.HeaderNeeded.{HeaderNeeded};
+ghost use Rattle.demand3.specs.LaterPlayed.{LaterExhibit};
 ghost use Rattle.demand3.specs.Played.{Exhibit, WaitingExhibit, EvenExhibit};
 
 // The claim. The function does nothing; its contract is the theorem.
@@ -21,6 +23,16 @@ pub fn waiting_exhibit_claim()
 // It speaks of an even number of replicas: of four, three of which are a majority.
 pub fn even_exhibit_claim()
     ensures { λ _. ⌜ EvenExhibit ⌝ }
+{}
+
+// And of logs that begin later, at different indices.
+pub fn later_exhibit_claim()
+    ensures { λ _. ⌜ LaterExhibit ⌝ }
+{}
+
+// What it supposes of headers is needed: a good header of another first index makes a step overwrite a committed payload's record.
+pub fn header_needed_claim()
+    ensures { λ _. ⌜ HeaderNeeded ⌝ }
 {}
 
 // And it allows no earlier truncation: with one don't-have fewer a payload on a majority would be truncated.

@@ -1,34 +1,55 @@
 -- All of it is computed from the definitions.
 use mathlib.Core.Path.{refl}
-use Rattle.search.specs.Search.{lowest, count, sum, oneIf, all}
-use Rattle.slices.specs.Parts.{part, spliced}
-use Rattle.slices.specs.Same.{same}
-use Rattle.checksum.specs.Checksum.{sumA, sumB, checksumOf}
-use Rattle.column.specs.Column.{digits, column, digitStep, valueFrom, valueOf}
-use Rattle.record.specs.Layout.{headerSize, sealed, headerBytes, recordBytes, blankRecord, padded, entryBytes, freshEntry}
-use Rattle.record.specs.Meaning.{isEpoch, firstIndex, readHeader, isGood, recordEpoch, readRecord, isIntact, entryEpoch, entryPayload, readEntry}
-use Rattle.image.specs.Refusal.{refuse, _else_}
-use Rattle.image.specs.Image.{index, imageSize, recordAt, entryAt, decodeUnder, firstIn, decodeImage}
-use Rattle.image.specs.View.{condition, epochOf, conditionAt, epochAt, isBlank, isProper, isLost, logLength, noGap, noneLost, rising, imageRefusal, callRefusal, readRefusal, viewOf, isSize, isReplica, isSlots}
-use Rattle.image.specs.Read.{isWhole}
-use Rattle.image.specs.Cluster.{imageAt, imagePart, firstAt, decode}
-use Rattle.planner.specs.Setting.{settingOf, has, viewsOf}
-use Rattle.planner.specs.Rules.{majority, mayTruncate, isFaulty, isRecordLost, isUsed, isTruncate, isFetch, isWait, answers, agrees, have, dontHave, donor, rule, end, firstWaiting, answer}
-use Rattle.planner.specs.Plan.{viewsIn, shapeRefusal, clusterRefusal, lentRefusal, planRefusal}
-use Rattle.protocol.specs.Store.{sameEntry}
-use Rattle.protocol.specs.Recovery.{_or_, ifBelow, leaderStore, differs, firstDiffering, followerStore, isSome, firstOf, ifReady, unlike, due, followersStore, next, after}
-use Rattle.protocol.specs.StepBytes.{nextIn, afterStoreBytes, stepsBytes, storesBytes}
-use Rattle.protocol.specs.Call.{budgetOf, refusalOf}
-use Rattle.protocol.specs.CallResult.{stepResult, runResult, answered, readyResult, acceptedResult, callResult}
 use Rattle.example.specs.Undamaged.{payloadA, payloadB, payloadC, noise}
 use Rattle.example.specs.Damaged.{five, scratch, first, second, third, fourth, fifth, damagedCluster}
 use Rattle.example.specs.Waiting.{three, scrawl, waitingCluster}
 use Rattle.example.specs.Four.{four, evenCluster, evenTorn}
 use Rattle.example.specs.Visited.{blankedOne, tornOne, fetchedOne, twoMore, lastStored, lastCluster}
-use Rattle.example.specs.Computed.{Computed}
+use Rattle.example.specs.Computed.{Computed, WaitingComputed, EvenComputed}
+use Rattle.example.proofs.Opened.{opened}
+
+pub waiting-computed : WaitingComputed
+unfolding opened three payloadA noise scrawl waitingCluster
+waiting-computed = record {
+  go-waiting = refl;
+  planned-waiting = refl;
+  wait-0 = record { rec = refl; ent = refl };
+  wait-1 = record { rec = refl; ent = refl };
+  wait-2 = record { rec = refl; ent = refl };
+  wait-header-0 = refl;
+  wait-header-1 = refl;
+  wait-header-2 = refl;
+  leader-faulty = refl;
+  no-copy-0 = refl;
+  no-copy-1 = refl;
+  no-copy-2 = refl;
+}
+
+pub even-computed : EvenComputed
+unfolding opened four payloadA payloadC noise evenCluster evenTorn
+even-computed = record {
+  go-even = refl;
+  next-even = refl;
+  even-begins = refl;
+  go-even-torn = refl;
+  even-0 = record { rec = refl; ent = refl };
+  even-1 = record { rec = refl; ent = refl };
+  even-2 = record { rec = refl; ent = refl };
+  even-3 = record { rec = refl; ent = refl };
+  even-header-0 = refl;
+  even-header-1 = refl;
+  even-header-2 = refl;
+  even-header-3 = refl;
+  even-ready = refl;
+  even-read-0 = refl;
+  even-read-1 = refl;
+  even-read-2 = refl;
+  even-read-3 = refl;
+  even-run = refl;
+}
 
 pub computed : Computed
-unfolding four evenCluster evenTorn three scrawl waitingCluster callRefusal readRefusal five payloadA payloadB payloadC noise scratch first second third fourth fifth damagedCluster lowest count sum oneIf all part spliced same sumA sumB checksumOf digits column digitStep valueFrom valueOf headerSize sealed headerBytes recordBytes blankRecord padded entryBytes freshEntry isEpoch firstIndex readHeader isGood recordEpoch readRecord isIntact entryEpoch entryPayload readEntry refuse _else_ index imageSize recordAt entryAt decodeUnder firstIn decodeImage condition epochOf conditionAt epochAt isBlank isProper isLost logLength noGap noneLost rising imageRefusal viewOf isSize isReplica isSlots isWhole imageAt imagePart firstAt decode settingOf has viewsOf viewsIn shapeRefusal clusterRefusal lentRefusal planRefusal refusalOf budgetOf majority mayTruncate isFaulty isRecordLost isUsed isTruncate isFetch isWait answers agrees have dontHave donor rule end firstWaiting answer sameEntry _or_ ifBelow leaderStore differs firstDiffering followerStore isSome firstOf ifReady unlike due followersStore next after nextIn afterStoreBytes stepsBytes storesBytes stepResult runResult answered acceptedResult callResult blankedOne tornOne fetchedOne twoMore lastStored lastCluster readyResult
+unfolding opened five payloadA payloadB payloadC noise scratch first second third fourth fifth damagedCluster blankedOne tornOne fetchedOne twoMore lastStored lastCluster
 computed = record {
   next-first = refl;
   next-torn = refl;
@@ -77,34 +98,6 @@ computed = record {
   copy = refl;
   ends = refl;
   other-slot = refl;
-  go-waiting = refl;
-  planned-waiting = refl;
-  wait-0 = record { rec = refl; ent = refl };
-  wait-1 = record { rec = refl; ent = refl };
-  wait-2 = record { rec = refl; ent = refl };
-  wait-header-0 = refl;
-  wait-header-1 = refl;
-  wait-header-2 = refl;
-  leader-faulty = refl;
-  no-copy-0 = refl;
-  no-copy-1 = refl;
-  no-copy-2 = refl;
-  go-even = refl;
-  next-even = refl;
-  even-begins = refl;
-  go-even-torn = refl;
-  even-0 = record { rec = refl; ent = refl };
-  even-1 = record { rec = refl; ent = refl };
-  even-2 = record { rec = refl; ent = refl };
-  even-3 = record { rec = refl; ent = refl };
-  even-header-0 = refl;
-  even-header-1 = refl;
-  even-header-2 = refl;
-  even-header-3 = refl;
-  even-ready = refl;
-  even-read-0 = refl;
-  even-read-1 = refl;
-  even-read-2 = refl;
-  even-read-3 = refl;
-  even-run = refl;
+  waiting = waiting-computed;
+  even = even-computed;
 }

@@ -1,2 +1,4 @@
 -- What `demand3` cites of its example.
+mod Opened
 pub mod ComputedLaws
+pub mod LaterLaws

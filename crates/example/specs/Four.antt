@@ -12,7 +12,7 @@ use Rattle.example.specs.Undamaged.{payloadA, payloadC, noise}
 
 -- four replicas with one slot
 abbrev pub ofFour : Shape
-ofFour = record { n = 4; m = 1 }
+ofFour = record { n = 4; m = 1; edition = 1 }
 
 -- leader 1, all four present
 unfoldable pub four : Numbers
@@ -20,9 +20,9 @@ four = record { shape = ofFour; leader = 1; present = 15 }
 
 unfoldable pub evenCluster : Bytes
 evenCluster =
-    (headerBytes ofFour 1 ++ (recordBytes 2 1 ++ entryBytes 1 1 payloadC))
-    ++ ((headerBytes ofFour 2 ++ (recordBytes 2 1 ++ noise))
-    ++ ((headerBytes ofFour 3 ++ (recordBytes 2 1 ++ entryBytes 2 1 payloadA)) ++ (headerBytes ofFour 4 ++ (blankRecord ++ freshEntry))))
+    (headerBytes ofFour 1 1 ++ (recordBytes 2 1 ++ entryBytes 1 1 payloadC))
+    ++ ((headerBytes ofFour 2 1 ++ (recordBytes 2 1 ++ noise))
+    ++ ((headerBytes ofFour 3 1 ++ (recordBytes 2 1 ++ entryBytes 2 1 payloadA)) ++ (headerBytes ofFour 4 1 ++ (blankRecord ++ freshEntry))))
 
 -- the power failed while the leader's entry was fetched
 unfoldable pub evenTorn : Bytes

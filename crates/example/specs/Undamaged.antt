@@ -25,7 +25,7 @@ noise = replicate 240 9
 
 -- an image with these records and entries; what is not listed is blank and fresh
 unfoldable pub imageWith : List Record → List Entry → Image
-imageWith rs xs = record { header = proper; records = λ k. getD rs k blank; entries = λ k. getD xs k (broken freshEntry) }
+imageWith rs xs = record { header = proper 1; records = λ k. getD rs k blank; entries = λ k. getD xs k (broken freshEntry) }
 
 -- A and B, and C in flight: its record is there, and its entry was torn
 unfoldable pub leaderImage : Image

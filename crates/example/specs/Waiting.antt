@@ -10,7 +10,7 @@ use Rattle.example.specs.Undamaged.{payloadA, noise}
 
 -- three replicas with one slot
 abbrev pub ofThree : Shape
-ofThree = record { n = 3; m = 1 }
+ofThree = record { n = 3; m = 1; edition = 1 }
 
 -- leader 1, all three present
 unfoldable pub three : Numbers
@@ -22,5 +22,5 @@ scrawl = replicate 28 9
 
 unfoldable pub waitingCluster : Bytes
 waitingCluster =
-    (headerBytes ofThree 1 ++ (recordBytes 2 1 ++ noise))
-    ++ ((headerBytes ofThree 2 ++ (recordBytes 2 1 ++ noise)) ++ (scrawl ++ (recordBytes 2 1 ++ entryBytes 2 1 payloadA)))
+    (headerBytes ofThree 1 1 ++ (recordBytes 2 1 ++ noise))
+    ++ ((headerBytes ofThree 2 1 ++ (recordBytes 2 1 ++ noise)) ++ (scrawl ++ (recordBytes 2 1 ++ entryBytes 2 1 payloadA)))

@@ -159,6 +159,7 @@ module _ (Z : Shape) (c : ℕ) (b : Bytes) (e : ℕ) (p : Bytes) (d : Bytes) whe
     one-more = record {
       size = as-long;
       readable = readable;
+      begins = same-first becomes;
       room = ok .room;
       longer = rw becomes (added-length (Z .m) before len e p sound refl (ok .room));
       whole = whole;

@@ -12,16 +12,17 @@ use Rattle.search.proofs.ListedLaws.{listed-ext}
 use Rattle.slices.specs.Parts.{Bytes}
 use Rattle.slices.proofs.SameLaws.{and-off}
 use Rattle.record.specs.declared.Shape.{Shape}
-use Rattle.image.specs.Image.{Image, imageSize, decodeImage, freshImage}
-use Rattle.image.specs.View.{Unused, Whole, condition, epochOf, conditionAt, epochAt, logLength, callRefusal, readRefusal}
+use Rattle.image.specs.Image.{Image, imageSize, firstIn, decodeImage, freshImage}
+use Rattle.image.specs.View.{Unused, Whole, condition, epochOf, conditionAt, epochAt, logLength, readRefusal}
 use Rattle.image.specs.Verdict.{isFresh, verdictAt}
 use Rattle.image.specs.Read.{isWhole, epochsOf, verdictsOf, hasPayload, payloadOf}
-use Rattle.image.specs.Append.{appendRefusal, appended}
+use Rattle.image.specs.Append.{formatRefusal, appendRefusal, appended}
 use Rattle.image.specs.AppendList.{Appending, appendAll, Accepted, epochsIn, payloadsIn, ReadsAs}
 use Rattle.image.specs.AppendClaim.{OneMore}
 use Rattle.image.proofs.ViewLaws.{Sound, length-le}
 use Rattle.image.proofs.VerdictLaws.{verdict-whole, verdict-unused}
-use Rattle.image.proofs.FreshLaws.{fresh-length, fresh-fresh, fresh-readable}
+use Rattle.image.proofs.CallLaws.{formatted-first}
+use Rattle.image.proofs.FreshLaws.{fresh-first, fresh-length, fresh-fresh, fresh-readable}
 use Rattle.image.proofs.AcceptLaws.{Accepts, accepts-elim, readable-image}
 use Rattle.image.proofs.AppendLaws.{has-payload, no-slot, payload-none, one-more, appended-entry, appended-stored}
 
@@ -48,7 +49,8 @@ listed-split m f l z h a b = sym (listed-ext m f 0 (l ++ replicate (m - length l
         ∙ sym (b k (omega arith) x)
 
 -- so much of b holds the list, and the rest is fresh
-record Holds (Z : Shape) (c : ℕ) (b : Bytes) (l : List Appending) : Type 0 where
+record Holds (Z : Shape) (c first : ℕ) (b : Bytes) (l : List Appending) : Type 0 where
+  begins : firstIn Z c b ≡ first
   readable : readRefusal Z c b ≡ 0
   many : logLength (Z .m) (decodeImage Z c b) ≡ length l
   whole : (k : ℕ) → k < length l → conditionAt (decodeImage Z c b) k ≡ Whole
@@ -56,17 +58,18 @@ record Holds (Z : Shape) (c : ℕ) (b : Bytes) (l : List Appending) : Type 0 whe
   payloads : (k : ℕ) → k < length l → payloadOf Z c b (suc k) ≡ getD l k nothing .payload
   unused : (k : ℕ) → length l ≤ k → k < Z .m → isFresh (decodeImage Z c b .entries k) ≡ true
 
-holds-fresh : (Z : Shape) (c : ℕ) → callRefusal Z c (imageSize Z c) ≡ 0 → Holds Z c (freshImage Z c) []
-holds-fresh Z c h = record {
-  readable = fresh-readable Z c h;
-  many = fresh-length Z c;
+holds-fresh : (Z : Shape) (c first : ℕ) → formatRefusal Z c first (imageSize Z c) ≡ 0 → Holds Z c first (freshImage Z c first) []
+holds-fresh Z c first h = record {
+  begins = fresh-first Z c first (formatted-first Z c first (imageSize Z c) h);
+  readable = fresh-readable Z c first h;
+  many = fresh-length Z c first;
   whole = λ k x. absurd (omega arith);
   epochs = λ k x. absurd (omega arith);
   payloads = λ k x. absurd (omega arith);
-  unused = λ k x y. fresh-fresh Z c k y;
+  unused = λ k x y. fresh-fresh Z c first k y;
 }
 
-module _ (Z : Shape) (c : ℕ) (b : Bytes) (l : List Appending) (a : Appending) (w : Holds Z c b l) (high : a .epoch ≤ 4294967295)
+module _ (Z : Shape) (c first : ℕ) (b : Bytes) (l : List Appending) (a : Appending) (w : Holds Z c first b l) (high : a .epoch ≤ 4294967295)
     (ok : appendRefusal Z c b (a .epoch) (length (a .payload)) ≡ 0) where
   abbrev after : Bytes
   after = appended Z c b (a .epoch) (a .payload)
@@ -91,8 +94,9 @@ module _ (Z : Shape) (c : ℕ) (b : Bytes) (l : List Appending) (a : Appending) 
   off : (k : ℕ) → k < length l → ¬ (k ≡ logLength (Z .m) (decodeImage Z c b))
   off k h q = omega (arith, w .many)
 
-  holds-more : Holds Z c after (l ++ (a ∷ []))
+  holds-more : Holds Z c first after (l ++ (a ∷ []))
   holds-more = record {
+    begins = longer .begins ∙ w .begins;
     readable = longer .readable;
     many = longer .longer ∙ omega (arith, w .many, length-append l (a ∷ []));
     whole =
@@ -112,15 +116,16 @@ module _ (Z : Shape) (c : ℕ) (b : Bytes) (l : List Appending) (a : Appending) 
           rw (appended-entry Z c b (a .epoch) (a .payload) after high accepts (appended-stored Z c b (a .epoch) (a .payload) ok) k (λ q. omega (arith, w .many)))
           (w .unused k (omega arith) x)
 
-holds-all : (Z : Shape) (c : ℕ) (r : List Appending) (b : Bytes) (l : List Appending) → Holds Z c b l → Accepted Z c b r → Holds Z c (appendAll Z c b r) (l ++ r)
+holds-all : (Z : Shape) (c first : ℕ) (r : List Appending) (b : Bytes) (l : List Appending) → Holds Z c first b l → Accepted Z c b r
+    → Holds Z c first (appendAll Z c b r) (l ++ r)
 unfolding appendAll Accepted
-holds-all Z c [] b l w t = rw (append-nil l) w
-holds-all Z c (a ∷ r) b l w t =
+holds-all Z c first [] b l w t = rw (append-nil l) w
+holds-all Z c first (a ∷ r) b l w t =
     rw (← append-snoc l a r)
-    (holds-all Z c r (appended Z c b (a .epoch) (a .payload)) (l ++ (a ∷ [])) (holds-more Z c b l a w (t .0) (t .1)) (t .2))
+    (holds-all Z c first r (appended Z c b (a .epoch) (a .payload)) (l ++ (a ∷ [])) (holds-more Z c first b l a w (t .0) (t .1)) (t .2))
 
 -- what holds, as the reader answers it
-module _ (Z : Shape) (c : ℕ) (b : Bytes) (l : List Appending) (w : Holds Z c b l) where
+module _ (Z : Shape) (c first : ℕ) (b : Bytes) (l : List Appending) (w : Holds Z c first b l) where
   abbrev image : Image
   image = decodeImage Z c b
 
@@ -157,10 +162,11 @@ module _ (Z : Shape) (c : ℕ) (b : Bytes) (l : List Appending) (w : Holds Z c b
   payload-at k (yes h) = w .payloads k h ∙ sym (List·getD-map (λ (a : Appending). a .payload) l k nothing)
   payload-at k (no h) = rest-payload k (omega arith) ∙ sym (List·getD-eq-default (payloadsIn l) [] (omega (arith, length-map l (λ (a : Appending). a .payload))))
 
-  reads-as : ReadsAs Z c b l
+  reads-as : ReadsAs Z c first b l
   unfolding epochsOf verdictsOf
   reads-as = record {
     readable = w .readable;
+    begins = w .begins;
     many = w .many;
     epochs =
         rw size at
@@ -182,7 +188,7 @@ module _ (Z : Shape) (c : ℕ) (b : Bytes) (l : List Appending) (w : Holds Z c b
       ones : length (replicate {A = ℕ} (length l) 1) ≡ length l
       ones = length-replicate (length l) 1
 
-pub several-read : (Z : Shape) (c : ℕ) (l : List Appending) → callRefusal Z c (imageSize Z c) ≡ 0 → Accepted Z c (freshImage Z c) l
-    → ReadsAs Z c (appendAll Z c (freshImage Z c) l) l
-several-read Z c l h a =
-    reads-as Z c (appendAll Z c (freshImage Z c) l) l (holds-all Z c l (freshImage Z c) [] (holds-fresh Z c h) a)
+pub several-read : (Z : Shape) (c first : ℕ) (l : List Appending) → formatRefusal Z c first (imageSize Z c) ≡ 0
+    → Accepted Z c (freshImage Z c first) l → ReadsAs Z c first (appendAll Z c (freshImage Z c first) l) l
+several-read Z c first l h a =
+    reads-as Z c first (appendAll Z c (freshImage Z c first) l) l (holds-all Z c first l (freshImage Z c first) [] (holds-fresh Z c first h) a)

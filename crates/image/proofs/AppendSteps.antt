@@ -21,10 +21,10 @@ use Rattle.image.specs.Refusal.{refuse, _else_}
 use Rattle.image.specs.Image.{Image, index, imageSize, recordAt, entryAt, decodeImage, freshImage}
 use Rattle.image.specs.View.{epochAt, logLength, callRefusal, imageRefusal, readRefusal}
 use Rattle.image.specs.Seen.{Seen}
-use Rattle.image.specs.Append.{lastEpoch, appendRefusal, stored, appended, formatted}
+use Rattle.image.specs.Append.{lastEpoch, formatRefusal, appendRefusal, stored, appended, formatted}
 use Rattle.image.specs.Answers.{refused, value, numbered, formatCallNumbers}
 use Rattle.image.proofs.RefusalLaws.{else-next, else-first}
-use Rattle.image.proofs.CallLaws.{slots-high, called-slots, called-size}
+use Rattle.image.proofs.CallLaws.{slots-high, called-slots, called-size, formatted-call}
 use Rattle.image.proofs.ViewLaws.{length-le}
 use Rattle.image.proofs.ScannedLaws.{taken-at}
 use Rattle.image.proofs.DecodeLaws.{size-is, entries-end, record-ends, entry-ends, first-is}
@@ -33,42 +33,42 @@ use Rattle.image.proofs.FreshLaws.{length-records, length-entries, leng
 
 -- ---- formatting
 
-module _ (Z : Shape) (c : ℕ) (b : Bytes) {r : ℕ} (is : r ≡ callRefusal Z c (length b)) where
-  pub format-refused : ¬ (r ≡ 0) → (refused r ≡ formatCallNumbers Z c (length b)) × (b ≡ formatted Z c b)
+module _ (Z : Shape) (c first : ℕ) (b : Bytes) {r : ℕ} (is : r ≡ formatRefusal Z c first (length b)) where
+  pub format-refused : ¬ (r ≡ 0) → (refused r ≡ formatCallNumbers Z c first (length b)) × (b ≡ formatted Z c first b)
   unfolding numbered formatted
   format-refused h = let off = ne-eqb r 0 h in (sym (rw (← is, off)), sym (rw (← is, off)))
 
   module _ (free : r ≡ 0) where
     pub format-few : Z .m ≤ 64
-    format-few = slots-high (Z .m) (called-slots Z c (length b) (sym is ∙ free))
+    format-few = slots-high (Z .m) (called-slots Z c (length b) (formatted-call Z c first (length b) (sym is ∙ free)))
 
     pub format-size : length b ≡ headerSize Z + 34 * Z .m + 240 * Z .m
-    format-size = called-size Z c (length b) (sym is ∙ free) ∙ size-is Z c
+    format-size = called-size Z c (length b) (formatted-call Z c first (length b) (sym is ∙ free)) ∙ size-is Z c
 
-    pub headed-size : {x : Bytes} → x ≡ spliced b 0 (headerBytes Z c) → length x ≡ headerSize Z + 34 * Z .m + 240 * Z .m
-    headed-size p = ap length p ∙ length-spliced b 0 (headerBytes Z c) (omega (arith, length-header Z c, format-size)) ∙ format-size
+    pub headed-size : {x : Bytes} → x ≡ spliced b 0 (headerBytes Z c first) → length x ≡ headerSize Z + 34 * Z .m + 240 * Z .m
+    headed-size p = ap length p ∙ length-spliced b 0 (headerBytes Z c first) (omega (arith, length-header Z c first, format-size)) ∙ format-size
 
-    pub blanked-size : {x y : Bytes} → x ≡ spliced b 0 (headerBytes Z c) → y ≡ spliced x (headerSize Z) (joined (Z .m) (λ k. blankRecord)) → length y ≡ headerSize Z + 34 * Z .m + 240 * Z .m
+    pub blanked-size : {x y : Bytes} → x ≡ spliced b 0 (headerBytes Z c first) → y ≡ spliced x (headerSize Z) (joined (Z .m) (λ k. blankRecord)) → length y ≡ headerSize Z + 34 * Z .m + 240 * Z .m
     blanked-size {x} p q = ap length q ∙ length-spliced x (headerSize Z) (joined (Z .m) (λ k. blankRecord)) (omega (arith, length-records (Z .m), headed-size p)) ∙ headed-size p
 
-  pub format-done : r ≡ 0 → {x y z : Bytes} → x ≡ spliced b 0 (headerBytes Z c) → y ≡ spliced x (headerSize Z) (joined (Z .m) (λ k. blankRecord))
-      → z ≡ spliced y (headerSize Z + 34 * Z .m) (joined (Z .m) (λ k. freshEntry)) → (value tt ≡ formatCallNumbers Z c (length b)) × (z ≡ formatted Z c b)
+  pub format-done : r ≡ 0 → {x y z : Bytes} → x ≡ spliced b 0 (headerBytes Z c first) → y ≡ spliced x (headerSize Z) (joined (Z .m) (λ k. blankRecord))
+      → z ≡ spliced y (headerSize Z + 34 * Z .m) (joined (Z .m) (λ k. freshEntry)) → (value tt ≡ formatCallNumbers Z c first (length b)) × (z ≡ formatted Z c first b)
   unfolding numbered formatted
   format-done h {x} {y} {z} p q s = (sym (rw (← is, h)), made ∙ sym (rw (← is, h)))
     where
-      head : length (headerBytes Z c) ≡ headerSize Z
-      head = length-header Z c
+      head : length (headerBytes Z c first) ≡ headerSize Z
+      head = length-header Z c first
 
-      records : length (headerBytes Z c ++ joined (Z .m) (λ k. blankRecord)) ≡ headerSize Z + 34 * Z .m
-      records = length-append (headerBytes Z c) (joined (Z .m) (λ k. blankRecord)) ∙ omega (arith, head, length-records (Z .m))
+      records : length (headerBytes Z c first ++ joined (Z .m) (λ k. blankRecord)) ≡ headerSize Z + 34 * Z .m
+      records = length-append (headerBytes Z c first) (joined (Z .m) (λ k. blankRecord)) ∙ omega (arith, head, length-records (Z .m))
 
-      made : z ≡ freshImage Z c
+      made : z ≡ freshImage Z c first
       made =
           unfold freshImage in
-          (let x = then (headerSize Z + 34 * Z .m + 240 * Z .m) 0 (headerBytes Z c) (start _ b (format-size h)) refl (omega (arith, head)) p in
+          (let x = then (headerSize Z + 34 * Z .m + 240 * Z .m) 0 (headerBytes Z c first) (start _ b (format-size h)) refl (omega (arith, head)) p in
           let y = then (headerSize Z + 34 * Z .m + 240 * Z .m) (headerSize Z) (joined (Z .m) (λ k. blankRecord)) x head (omega (arith, length-records (Z .m))) q in
           let z = then (headerSize Z + 34 * Z .m + 240 * Z .m) (headerSize Z + 34 * Z .m) (joined (Z .m) (λ k. freshEntry)) y records (omega (arith, length-entries (Z .m))) s in
-          whole z (length-fresh-image Z c ∙ size-is Z c))
+          whole z (length-fresh-image Z c first ∙ size-is Z c))
 
 -- ---- appending: refusals 8 to 10
 

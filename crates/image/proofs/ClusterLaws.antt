@@ -13,11 +13,14 @@ use Rattle.slices.proofs.PartLaws.{length-part, part-part}
 use Rattle.slices.proofs.SpliceLaws.{length-spliced, spliced-before, spliced-behind}
 use Rattle.slices.proofs.NestedLaws.{part-spliced}
 use Rattle.record.specs.declared.Shape.{Shape}
-use Rattle.record.specs.Meaning.{readRecord, readEntry}
-use Rattle.image.specs.Image.{Image, index, imageSize, recordAt, entryAt, decodeImage}
+use Rattle.record.specs.Layout.{headerSize}
+use Rattle.record.specs.Meaning.{firstIndex, readRecord, readEntry}
+use Rattle.record.proofs.LayoutLaws.{gives-other}
+use Rattle.record.proofs.HeaderLaws.{read-first-one}
+use Rattle.image.specs.Image.{Image, index, imageSize, recordAt, entryAt, decodeUnder, firstIn, decodeImage}
 use Rattle.image.specs.SetSlot.{setRecord, setEntry}
-use Rattle.image.specs.Cluster.{imageAt, imagePart, firstAt, decode}
-use Rattle.image.proofs.DecodeLaws.{size-some, record-fits, entry-fits, record-there, entry-there, record-spliced, entry-spliced}
+use Rattle.image.specs.Cluster.{imageAt, imagePart, firstAt, decode, decodeWith}
+use Rattle.image.proofs.DecodeLaws.{size-some, record-fits, entry-fits, first-is, entry-under, record-there, entry-there, record-spliced, entry-spliced}
 
 -- every replica has an image of one size
 same-size : (Z : Shape) (c d : ℕ) → imageSize Z (suc c) ≡ imageSize Z (suc d)
@@ -65,6 +68,33 @@ record-means Z b c k h = record-there Z (suc c) (imagePart Z b c) k h ∙ ap (re
 pub entry-means : (Z : Shape) (b : Bytes) (c k : ℕ) → k < Z .m → decode Z b c .entries k ≡ readEntry (index (firstAt Z b c) k) (part b (imageAt Z c + entryAt Z k) 240)
 unfolding decode firstAt
 entry-means Z b c k h = entry-there Z (suc c) (imagePart Z b c) k h ∙ ap (readEntry (index (firstAt Z b c) k)) (entry-part Z b c k h)
+
+-- taken apart under given indices: the same where the header gives that index
+pub with-header : (Z : Shape) (firsts : ℕ → ℕ) (b : Bytes) (c : ℕ) → decodeWith Z firsts b c .header ≡ decode Z b c .header
+unfolding decodeWith decode decodeImage decodeUnder
+with-header Z firsts b c = refl
+
+pub with-same : (Z : Shape) (firsts : ℕ → ℕ) (b : Bytes) (c : ℕ) → firstAt Z b c ≡ firsts c → decodeWith Z firsts b c ≡ decode Z b c
+unfolding decodeWith decode decodeImage firstAt
+with-same Z firsts b c e = ap (λ (z : ℕ). decodeUnder Z (suc c) z (imagePart Z b c)) (sym e)
+
+pub entry-with : (Z : Shape) (firsts : ℕ → ℕ) (b : Bytes) (c k : ℕ) → k < Z .m
+    → decodeWith Z firsts b c .entries k ≡ readEntry (index (firsts c) k) (part b (imageAt Z c + entryAt Z k) 240)
+unfolding decodeWith
+entry-with Z firsts b c k h = entry-under Z (suc c) (firsts c) (imagePart Z b c) k h ∙ ap (readEntry (index (firsts c) k)) (entry-part Z b c k h)
+
+-- in edition 1 a log begins at 1, whatever its header became
+pub begins-one : (Z : Shape) (b : Bytes) (c : ℕ) → Z .edition ≡ 1 → firstAt Z b c ≡ 1
+unfolding firstAt firstIn
+begins-one Z b c e = read-first-one Z (suc c) (part (imagePart Z b c) 0 (headerSize Z)) (gives-other Z (λ two. omega arith))
+
+pub with-one : (Z : Shape) (firsts : ℕ → ℕ) (b : Bytes) (c : ℕ) → Z .edition ≡ 1 → firsts c ≡ 1 → decodeWith Z firsts b c ≡ decode Z b c
+with-one Z firsts b c e f = with-same Z firsts b c (begins-one Z b c e ∙ sym f)
+
+-- what is seen of a replica's first index is what its header gives
+pub first-at : (Z : Shape) (b : Bytes) (c : ℕ) → firstIndex (decode Z b c .header) ≡ firstAt Z b c
+unfolding decode firstAt
+first-at Z b c = first-is Z (suc c) (imagePart Z b c)
 
 module _ (Z : Shape) (b : Bytes) (size : length b ≡ imageAt Z (Z .n)) where
   pub length-image : (c : ℕ) → c < Z .n → length (imagePart Z b c) ≡ imageSize Z (suc c)

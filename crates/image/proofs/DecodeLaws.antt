@@ -15,7 +15,7 @@ use Rattle.slices.specs.Parts.{Bytes, part, spliced}
 use Rattle.slices.proofs.SpliceLaws.{spliced-here, spliced-before, spliced-behind, spliced-other}
 use Rattle.record.specs.declared.Shape.{Shape}
 use Rattle.record.specs.Layout.{headerSize}
-use Rattle.record.proofs.LayoutLaws.{header-size-is}
+use Rattle.record.proofs.LayoutLaws.{header-size-low, header-size-high}
 use Rattle.record.specs.Meaning.{firstIndex, blank, broken, readHeader, readRecord, readEntry}
 use Rattle.image.specs.Image.{Image, index, imageSize, recordAt, entryAt, decodeUnder, firstIn, decodeImage}
 use Rattle.image.specs.SetSlot.{setRecord, setEntry}
@@ -26,10 +26,10 @@ size-is Z c = refl
 
 -- an image has at least a byte, and of at most 64 slots at most so many
 pub size-some : (Z : Shape) (c : ℕ) → 1 ≤ imageSize Z c
-size-some Z c = omega (arith, size-is Z c, header-size-is Z)
+size-some Z c = omega (arith, size-is Z c, header-size-low Z)
 
-pub size-few : (Z : Shape) (c : ℕ) → Z .m ≤ 64 → imageSize Z c ≤ 17564
-size-few Z c h = omega (arith, size-is Z c, header-size-is Z)
+pub size-few : (Z : Shape) (c : ℕ) → Z .m ≤ 64 → imageSize Z c ≤ 17575
+size-few Z c h = omega (arith, size-is Z c, header-size-high Z)
 
 -- where they begin
 pub record-begins : (Z : Shape) (k : ℕ) → recordAt Z k ≡ headerSize Z + 34 * k

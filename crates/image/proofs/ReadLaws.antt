@@ -17,7 +17,7 @@ use Rattle.image.specs.View.{epochAt, isSlots, callRefusal, imageRefusal
 use Rattle.image.specs.Seen.{Seen}
 use Rattle.image.specs.Scan.{Marked}
 use Rattle.image.specs.Read.{lentRefusal, epochsOf, verdictsOf}
-use Rattle.image.specs.Answers.{refused, value, numbered}
+use Rattle.image.specs.Answers.{Numbered, refused, value, numbered}
 use Rattle.image.proofs.RefusalLaws.{else-first, else-next, else-zero-l, refuse-on, refuse-off}
 use Rattle.image.proofs.CallLaws.{called-slots, called-size}
 use Rattle.image.proofs.ScannedLaws.{taken-at}
@@ -66,18 +66,18 @@ module _ (Z : Shape) (c : ℕ) (b : Bytes) (es vs r : ℕ) (e : r ≡ readRefusa
     lent-none k l = lent-next ∙ refuse-off 13 (rw (eq-eqb es (Z .m) k, eq-eqb vs (Z .m) l))
 
 -- a refused call changes nothing lent
-pub read-refused : {q r : ℕ} → q ≡ r → ¬ (r ≡ 0) → (len : ℕ) (x es y vs : List ℕ)
-    → (refused r ≡ numbered q len) × (es ≡ unlessRefused q x es) × (vs ≡ unlessRefused q y vs)
+pub read-refused : {A : Type 0} {q r : ℕ} → q ≡ r → ¬ (r ≡ 0) → (log : A) (x es y vs : List ℕ)
+    → (refused r ≡ numbered q log) × (es ≡ unlessRefused q x es) × (vs ≡ unlessRefused q y vs)
 unfolding numbered unlessRefused
-read-refused {q} {r} e h len x es y vs = (sym (rw (e, off)), sym (rw (e, off)), sym (rw (e, off)))
+read-refused {q = q} {r = r} e h log x es y vs = (sym (rw (e, off)), sym (rw (e, off)), sym (rw (e, off)))
   where
     off : eqb r 0 ≡ false
     off = ne-eqb r 0 h
 
-pub read-done : {q : ℕ} → q ≡ 0 → (len used : ℕ) (x es es′ y vs vs′ : List ℕ) → used ≡ len → es′ ≡ x → vs′ ≡ y
-    → (value used ≡ numbered q len) × (es′ ≡ unlessRefused q x es) × (vs′ ≡ unlessRefused q y vs)
+pub read-done : {q : ℕ} → q ≡ 0 → (len begins used first : ℕ) (x es es′ y vs vs′ : List ℕ) → used ≡ len → first ≡ begins → es′ ≡ x → vs′ ≡ y
+    → (_≡_ {A = Numbered (ℕ × ℕ)} (value (used, first)) (numbered q (len, begins))) × (es′ ≡ unlessRefused q x es) × (vs′ ≡ unlessRefused q y vs)
 unfolding numbered unlessRefused
-read-done {q} e len used x es es′ y vs vs′ l p v = (rw (e, l), rw (e, p), rw (e, v))
+read-done {q} e len begins used first x es es′ y vs vs′ l f p v = (rw (e, l, f), rw (e, p), rw (e, v))
 
 -- what the view tells is what the buffers are filled from
 module _ (m : ℕ) (i : Image) {first : ℕ} (used : ℕ) (cs es : List ℕ) (s : Seen m i first used cs es) where

@@ -10,15 +10,15 @@ use borrow.Author.Tests.{eqb-true, eq-eqb, leb-true}
 use Rattle.slices.specs.Parts.{Bytes, part}
 use Rattle.slices.proofs.SameLaws.{and-left, and-right, and-true}
 use Rattle.record.specs.declared.Shape.{Shape}
-use Rattle.record.specs.Layout.{headerSize, headerBytes}
+use Rattle.record.specs.Layout.{headerSize}
 use Rattle.record.specs.Meaning.{Header, proper, improper, Record, good, blank, bad, Entry, intact, broken, readHeader}
-use Rattle.record.specs.Exactly.{HeaderIs}
+use Rattle.record.specs.Exactly.{HeaderIs, SomeHeader}
 use Rattle.record.proofs.HeaderLaws.{header-is, proper-read}
 use Rattle.image.specs.Refusal.{refuse, _else_}
 use Rattle.image.specs.Image.{Image, imageSize, decodeUnder, decodeImage}
-use Rattle.image.specs.View.{Whole, Faulty, isSize, isReplica, isSlots, isBlank, isProper, isLost, condition, conditionAt, logLength, noGap, noneLost, rising, imageRefusal, callRefusal, readRefusal, epochAt}
+use Rattle.image.specs.View.{Whole, Faulty, isSize, isReplica, isSlots, isEdition, isBlank, isProper, isLost, condition, conditionAt, logLength, noGap, noneLost, rising, imageRefusal, namedRefusal, callRefusal, readRefusal, epochAt}
 use Rattle.image.specs.RefusalClaim.{Lowest, ReadPasses}
-use Rattle.image.proofs.CallLaws.{is-slots, slots-low, slots-high, is-size, size-low, size-high, is-replica}
+use Rattle.image.proofs.CallLaws.{is-slots, slots-low, slots-high, is-size, size-low, size-high, is-replica, is-edition, edition-from, edition-to}
 use Rattle.image.proofs.ViewLaws.{length-le, used-below, blank-next, gap-elim, gap-intro, lost-elim, lost-intro, rising-intro, rising-all}
 use Rattle.image.proofs.LowestLaws.{From, Decides, try, last-of, else-assoc}
 
@@ -30,26 +30,35 @@ slots-decides m = record { so = λ e. (slots-low m e, slots-high m e); back = λ
 size-decides : (n : ℕ) → Decides (isSize n) ((3 ≤ n) × (n ≤ 7))
 size-decides n = record { so = λ e. (size-low n e, size-high n e); back = λ p. is-size n (p .0) (p .1) }
 
-replica-decides : (n c : ℕ) → Decides (isSize n && isReplica n c) (((3 ≤ n) × (n ≤ 7)) × ((1 ≤ c) × (c ≤ n)))
+edition-decides : (e : ℕ) → Decides (isEdition e) ((1 ≤ e) × (e ≤ 2))
+edition-decides e = record { so = λ h. (edition-from e h, edition-to e h); back = λ p. is-edition e (p .0) (p .1) }
+
+replica-decides : (n c : ℕ) → Decides (isReplica n c) ((1 ≤ c) × (c ≤ n))
 replica-decides n c = record {
-  so = λ e. (size-decides n .so (and-left (isSize n) (isReplica n c) e), within (and-right (isSize n) (isReplica n c) e));
-  back = λ p. and-true (isSize n) (isReplica n c) (size-decides n .back (p .0)) (is-replica n c (p .1 .0) (p .1 .1));
+  so = λ e. unfold isReplica in (leb-true 1 c (and-left (leb 1 c) (leb c n) e), leb-true c n (and-right (leb 1 c) (leb c n) e));
+  back = λ p. is-replica n c (p .0) (p .1);
 }
-  where
-    within : isReplica n c ≡ true → (1 ≤ c) × (c ≤ n)
-    within e = unfold isReplica in (leb-true 1 c (and-left (leb 1 c) (leb c n) e), leb-true c n (and-right (leb 1 c) (leb c n) e))
+
+both-decide : (s t : Bool) {P Q : Type 0} → Decides s P → Decides t Q → Decides (s && t) (P × Q)
+both-decide s t d e = record { so = λ h. (d .so (and-left s t h), e .so (and-right s t h)); back = λ p. and-true s t (d .back (p .0)) (e .back (p .1)) }
+
+named-decides : (Z : Shape) (c : ℕ)
+    → Decides (isSize (Z .n) && isEdition (Z .edition) && isReplica (Z .n) c) (((3 ≤ Z .n) × (Z .n ≤ 7)) × ((1 ≤ Z .edition) × (Z .edition ≤ 2)) × ((1 ≤ c) × (c ≤ Z .n)))
+named-decides Z c =
+    let d = both-decide (isSize (Z .n) && isEdition (Z .edition)) (isReplica (Z .n) c) (both-decide (isSize (Z .n)) (isEdition (Z .edition)) (size-decides (Z .n)) (edition-decides (Z .edition))) (replica-decides (Z .n) c) in
+    record { so = λ h. (d .so h .0 .0, d .so h .0 .1, d .so h .1); back = λ p. d .back ((p .0, p .1), p .2) }
 
 bytes-decides : (Z : Shape) (c size : ℕ) → Decides (eqb size (imageSize Z c)) (size ≡ imageSize Z c)
 bytes-decides Z c size = record { so = eqb-true size (imageSize Z c); back = eq-eqb size (imageSize Z c) }
 
 -- ---- 4
 
-header-decides : (Z : Shape) (c : ℕ) (b : Bytes) → Decides (isProper (readHeader Z c b)) (b ≡ headerBytes Z c)
+header-decides : (Z : Shape) (c : ℕ) (b : Bytes) → Decides (isProper (readHeader Z c b)) (SomeHeader Z c b)
 unfolding isProper
-header-decides Z c b = record { so = λ e. so (readHeader Z c b) (header-is Z c b) e; back = λ p. rw (proper-read Z c b p) }
+header-decides Z c b = record { so = λ e. so (readHeader Z c b) (header-is Z c b) e; back = λ p. rw (proper-read Z c b (p .first) (p .is)) }
   where
-    so : (h : Header) → HeaderIs Z c b h → isProper h ≡ true → b ≡ headerBytes Z c
-    so proper p e = p
+    so : (h : Header) → HeaderIs Z c b h → isProper h ≡ true → SomeHeader Z c b
+    so (proper first) p e = record { first = first; is = p }
     so (improper z) p e = absurd (true≢false (sym e))
 
 -- ---- 5 to 7
@@ -150,11 +159,11 @@ module _ (Z : Shape) (c : ℕ) (b : Bytes) where
           end (suc r) = unfold _else_ in refl
 
   from-one : From Passes 1 (readRefusal Z c b)
-  unfolding readRefusal callRefusal
+  unfolding readRefusal callRefusal namedRefusal
   from-one =
       rw (else-assoc, else-assoc)
       (try Passes 1 (isSlots (Z .m)) _ (λ e. omega arith) (slots-decides (Z .m))
-      (λ _. try Passes 2 (isSize (Z .n) && isReplica (Z .n) c) _ (λ e. omega arith) (replica-decides (Z .n) c)
+      (λ _. try Passes 2 (isSize (Z .n) && isEdition (Z .edition) && isReplica (Z .n) c) _ (λ e. omega arith) (named-decides Z c)
       (λ _. try Passes 3 (eqb (length b) (imageSize Z c)) _ (λ e. omega arith) (bytes-decides Z c (length b)) (λ _. of-image))))
 
   pub lowest-wins : Lowest (ReadPasses Z c b (decodeImage Z c b)) (readRefusal Z c b)

@@ -32,17 +32,17 @@ is-improper Improper h = refl
 -- what each answer of the judge says of a header
 answered-improper : (h : Header) {a : HeaderState} → a ≡ headerAnswer h → a ≡ Improper → isProper h ≡ false
 unfolding headerAnswer isProper
-answered-improper proper e q = absurd (let z : _≡_ {A = ℕ} 0 1 = cc in omega arith)
+answered-improper (proper f) e q = absurd (let z : _≡_ {A = ℕ} 0 1 = cc in omega arith)
 answered-improper (improper b) e q = refl
 
 answered-proper : (h : Header) {a : HeaderState} {first : ℕ} → a ≡ headerAnswer h → a ≡ Proper first → isProper h ≡ true
 unfolding headerAnswer isProper
-answered-proper proper e q = refl
+answered-proper (proper f) e q = refl
 answered-proper (improper b) e q = absurd (let z : _≡_ {A = ℕ} 0 1 = cc in omega arith)
 
 answered-first : (h : Header) {a : HeaderState} {first : ℕ} → a ≡ headerAnswer h → a ≡ Proper first → first ≡ firstIndex h
-unfolding headerAnswer
-answered-first proper {a} {first} e q = let z : first ≡ firstIndex proper = cc in z
+unfolding headerAnswer firstIndex
+answered-first (proper f) {a} {first} e q = let z : first ≡ f = cc in z
 answered-first (improper b) e q = absurd (let z : _≡_ {A = ℕ} 0 1 = cc in omega arith)
 
 module _ (Z : Shape) (c : ℕ) (b : Bytes) {a : HeaderState} (e : a ≡ headerAnswer (readHeader Z c (take (headerSize Z) b))) where

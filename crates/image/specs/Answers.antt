@@ -7,10 +7,10 @@ use lib.ListN.{length}
 use Rattle.slices.specs.Parts.{Bytes}
 use Rattle.record.specs.declared.Shape.{Shape}
 use Rattle.image.specs.Refusal.{unlessRefused}
-use Rattle.image.specs.Image.{decodeImage}
-use Rattle.image.specs.View.{callRefusal, readRefusal, logLength}
+use Rattle.image.specs.Image.{firstIn, decodeImage}
+use Rattle.image.specs.View.{readRefusal, logLength}
 use Rattle.image.specs.Read.{lentRefusal, epochsOf, verdictsOf, hasPayload}
-use Rattle.image.specs.Append.{appendRefusal}
+use Rattle.image.specs.Append.{formatRefusal, appendRefusal}
 use Rattle.image.specs.declared.FormatAnswer.{FormatAnswer}
 use Rattle.image.specs.declared.FormatAnswer.the-variants as format
 use Rattle.image.specs.declared.ReadAnswer.{ReadAnswer}
@@ -34,9 +34,9 @@ abbrev pub formatNumbers : FormatAnswer → Numbered (Unit {0})
 formatNumbers format.Formatted = value tt
 formatNumbers (format.Refused r) = refused r
 
--- the log's length
-abbrev pub readNumbers : ReadAnswer → Numbered ℕ
-readNumbers (read.Length length) = value length
+-- the log's length, and the index that it begins at
+abbrev pub readNumbers : ReadAnswer → Numbered (ℕ × ℕ)
+readNumbers (read.Log length first) = value (length, first)
 readNumbers (read.Refused r) = refused r
 
 -- the number of the slot that was written
@@ -50,13 +50,13 @@ payloadNumbers payload.Present = value true
 payloadNumbers payload.Absent = value false
 payloadNumbers (payload.Refused r) = refused r
 
--- a fresh image of replica c, in a buffer of so many bytes: the answer
-abbrev pub formatCallNumbers : Shape → ℕ → ℕ → Numbered (Unit {0})
-formatCallNumbers Z c size = numbered (callRefusal Z c size) tt
+-- a fresh image of replica c, of a log that begins at this index, in a buffer of so many bytes: the answer
+abbrev pub formatCallNumbers : Shape → ℕ → ℕ → ℕ → Numbered (Unit {0})
+formatCallNumbers Z c first size = numbered (formatRefusal Z c first size) tt
 
 -- reading replica c's image, lent buffers of so many epochs and verdicts: the answer
-abbrev pub readCallNumbers : Shape → ℕ → Bytes → ℕ → ℕ → Numbered ℕ
-readCallNumbers Z c b epochs verdicts = numbered (lentRefusal Z c b epochs verdicts) (logLength (Z .m) (decodeImage Z c b))
+abbrev pub readCallNumbers : Shape → ℕ → Bytes → ℕ → ℕ → Numbered (ℕ × ℕ)
+readCallNumbers Z c b epochs verdicts = numbered (lentRefusal Z c b epochs verdicts) (logLength (Z .m) (decodeImage Z c b), firstIn Z c b)
 
 -- what it leaves in them
 abbrev pub epochsLeft : Shape → ℕ → Bytes → List ℕ → ℕ → List ℕ

@@ -7,9 +7,10 @@ use lib.ListN.{length}
 use Rattle.slices.specs.Parts.{Bytes, spliced}
 use Rattle.record.specs.declared.Shape.{Shape}
 use Rattle.record.specs.Layout.{recordBytes, entryBytes}
+use Rattle.record.specs.Meaning.{isFirst}
 use Rattle.image.specs.Refusal.{refuse, _else_}
 use Rattle.image.specs.Image.{Image, index, firstIn, decodeImage, imageSize, recordAt, entryAt, freshImage}
-use Rattle.image.specs.View.{callRefusal, readRefusal, logLength, epochAt}
+use Rattle.image.specs.View.{namedRefusal, readRefusal, logLength, epochAt}
 
 -- the last used slot's epoch, 0 for an empty log
 unfoldable pub lastEpoch : ℕ → Image → ℕ
@@ -31,6 +32,10 @@ unfoldable pub appended : Shape → ℕ → Bytes → ℕ → Bytes → Bytes
 appended Z c b e p =
     cond (eqb (appendRefusal Z c b e (length p)) 0) (stored Z (firstIn Z c b) b (logLength (Z .m) (decodeImage Z c b)) e p) b
 
--- a fresh image is made in a buffer of its size
-unfoldable pub formatted : Shape → ℕ → Bytes → Bytes
-formatted Z c b = cond (eqb (callRefusal Z c (length b)) 0) (freshImage Z c) b
+-- a fresh image is refused as other calls are, and by 20, tried just before 3, if its log may not begin at that index (02, Six)
+unfoldable pub formatRefusal : Shape → ℕ → ℕ → ℕ → ℕ
+formatRefusal Z c first size = namedRefusal Z c else refuse 20 (not (isFirst Z first)) else refuse 3 (not (eqb size (imageSize Z c)))
+
+-- it is made in a buffer of its size
+unfoldable pub formatted : Shape → ℕ → ℕ → Bytes → Bytes
+formatted Z c first b = cond (eqb (formatRefusal Z c first (length b)) 0) (freshImage Z c first) b

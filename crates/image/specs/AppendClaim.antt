@@ -8,17 +8,18 @@ use lib.ListN.{length}
 use Rattle.slices.specs.Parts.{Bytes}
 use Rattle.record.specs.declared.Shape.{Shape}
 use Rattle.record.specs.Meaning.{blank}
-use Rattle.image.specs.Image.{Image, imageSize, decodeImage, freshImage}
-use Rattle.image.specs.View.{Whole, conditionAt, epochAt, logLength, callRefusal, readRefusal}
+use Rattle.image.specs.Image.{Image, imageSize, firstIn, decodeImage, freshImage}
+use Rattle.image.specs.View.{Whole, conditionAt, epochAt, logLength, readRefusal}
 use Rattle.image.specs.Verdict.{isFresh, verdictAt}
 use Rattle.image.specs.Read.{hasPayload, payloadOf}
-use Rattle.image.specs.Append.{lastEpoch, appendRefusal, appended}
+use Rattle.image.specs.Append.{lastEpoch, formatRefusal, appendRefusal, appended}
 use Rattle.image.specs.AppendList.{Appending, appendAll, Accepted, ReadsAs}
 
 -- an image with nothing in it
-pub record Empty (Z : Shape) (c : ℕ) (b : Bytes) : Type 0 where
+pub record Empty (Z : Shape) (c first : ℕ) (b : Bytes) : Type 0 where
   pub size : length b ≡ imageSize Z c
   pub readable : readRefusal Z c b ≡ 0
+  pub begins : firstIn Z c b ≡ first
   pub none : logLength (Z .m) (decodeImage Z c b) ≡ 0
   pub blanks : (k : ℕ) → k < Z .m → decodeImage Z c b .records k ≡ blank
   pub verdicts : (k : ℕ) → k < Z .m → verdictAt (Z .m) (decodeImage Z c b) k ≡ 0
@@ -27,6 +28,7 @@ pub record Empty (Z : Shape) (c : ℕ) (b : Bytes) : Type 0 where
 pub record OneMore (Z : Shape) (c : ℕ) (b : Bytes) (i : Image) (len e : ℕ) (p : Bytes) (b′ : Bytes) (i′ : Image) : Type 0 where
   pub size : length b′ ≡ length b
   pub readable : readRefusal Z c b′ ≡ 0
+  pub begins : firstIn Z c b′ ≡ firstIn Z c b
   pub room : len < Z .m
   pub longer : logLength (Z .m) i′ ≡ suc len
   pub whole : conditionAt i′ len ≡ Whole
@@ -49,11 +51,11 @@ pub record AtLastEpoch (Z : Shape) (c : ℕ) (b : Bytes) (size : ℕ) : Type 0 w
   pub lower : appendRefusal Z c b (lastEpoch (Z .m) (decodeImage Z c b) - 1) size ≡ 8
 
 pub record AppendClaim : Type 0 where
-  pub fresh : (Z : Shape) (c : ℕ) → callRefusal Z c (imageSize Z c) ≡ 0 → Empty Z c (freshImage Z c)
+  pub fresh : (Z : Shape) (c first : ℕ) → formatRefusal Z c first (imageSize Z c) ≡ 0 → Empty Z c first (freshImage Z c first)
   pub one : (Z : Shape) (c : ℕ) (b : Bytes) (e : ℕ) (p : Bytes) → e ≤ 4294967295 → appendRefusal Z c b e (length p) ≡ 0
       → OneMore Z c b (decodeImage Z c b) (logLength (Z .m) (decodeImage Z c b)) e p
       (appended Z c b e p) (decodeImage Z c (appended Z c b e p))
-  pub several : (Z : Shape) (c : ℕ) (l : List Appending) → callRefusal Z c (imageSize Z c) ≡ 0 → Accepted Z c (freshImage Z c) l
-      → ReadsAs Z c (appendAll Z c (freshImage Z c) l) l
+  pub several : (Z : Shape) (c first : ℕ) (l : List Appending) → formatRefusal Z c first (imageSize Z c) ≡ 0
+      → Accepted Z c (freshImage Z c first) l → ReadsAs Z c first (appendAll Z c (freshImage Z c first) l) l
   pub at-last-epoch : (Z : Shape) (c : ℕ) (b : Bytes) (size : ℕ) → readRefusal Z c b ≡ 0 → 0 < logLength (Z .m) (decodeImage Z c b)
       → logLength (Z .m) (decodeImage Z c b) < Z .m → size ≤ 200 → AtLastEpoch Z c b size

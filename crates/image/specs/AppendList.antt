@@ -6,7 +6,7 @@ use mathlib.Core.List.{List, [], _∷_, _++_, map}
 use lib.ListN.{length, getD, replicate}
 use Rattle.slices.specs.Parts.{Bytes}
 use Rattle.record.specs.declared.Shape.{Shape}
-use Rattle.image.specs.Image.{decodeImage}
+use Rattle.image.specs.Image.{firstIn, decodeImage}
 use Rattle.image.specs.View.{readRefusal, logLength}
 use Rattle.image.specs.Read.{epochsOf, verdictsOf, hasPayload, payloadOf}
 use Rattle.image.specs.Append.{appendRefusal, appended}
@@ -34,9 +34,10 @@ epochsIn l = map (λ (a : Appending). a .epoch) l
 abbrev pub payloadsIn : List Appending → List Bytes
 payloadsIn l = map (λ (a : Appending). a .payload) l
 
--- reading b answers these: so many slots, their epochs and then 0, verdicts 1 and then 0, their payloads and no others
-pub record ReadsAs (Z : Shape) (c : ℕ) (b : Bytes) (l : List Appending) : Type 0 where
+-- reading b answers these: where the log begins, so many slots, their epochs and then 0, verdicts 1 and then 0, their payloads and no others
+pub record ReadsAs (Z : Shape) (c first : ℕ) (b : Bytes) (l : List Appending) : Type 0 where
   pub readable : readRefusal Z c b ≡ 0
+  pub begins : firstIn Z c b ≡ first
   pub many : logLength (Z .m) (decodeImage Z c b) ≡ length l
   pub epochs : epochsOf (Z .m) (decodeImage Z c b) ≡ epochsIn l ++ replicate (Z .m - length l) 0
   pub verdicts : verdictsOf (Z .m) (decodeImage Z c b) ≡ replicate (length l) 1 ++ replicate (Z .m - length l) 0

@@ -3,7 +3,7 @@ use Prim.Native.Nat.{ℕ, suc}
 use Rattle.search.specs.Search.{sum, joined}
 use Rattle.slices.specs.Parts.{Bytes, part}
 use Rattle.record.specs.declared.Shape.{Shape}
-use Rattle.image.specs.Image.{Image, imageSize, firstIn, decodeImage, encodeImage}
+use Rattle.image.specs.Image.{Image, imageSize, decodeUnder, firstIn, decodeImage, encodeImage}
 
 abbrev pub Cluster : Type 0
 Cluster = ℕ → Image
@@ -22,6 +22,10 @@ firstAt Z b c = firstIn Z (suc c) (imagePart Z b c)
 
 unfoldable pub decode : Shape → Bytes → Cluster
 decode Z b c = decodeImage Z (suc c) (imagePart Z b c)
+
+-- under indices that are given, for what demand 3 supposes of logs whose headers may be damaged
+unfoldable pub decodeWith : Shape → (ℕ → ℕ) → Bytes → Cluster
+decodeWith Z firsts b c = decodeUnder Z (suc c) (firsts c) (imagePart Z b c)
 
 unfoldable pub encode : Shape → Cluster → Bytes
 encode Z F = joined (Z .n) (λ c. encodeImage Z (suc c) (F c))

@@ -18,7 +18,7 @@ pub record Image : Type 0 where
 unfoldable pub index : ℕ → ℕ → ℕ
 index first k = first + k
 
--- the image of replica c (from 1), of m slots, is 28 + 274 × m bytes: the header, the records, the entries
+-- the image of replica c (from 1), of m slots, is 28 + 274 × m bytes, in edition 2 39 + 274 × m: the header, the records, the entries
 unfoldable pub imageSize : Shape → ℕ → ℕ
 imageSize Z c = headerSize Z + recordSize * Z .m + entrySize * Z .m
 
@@ -50,6 +50,6 @@ encodeImage Z c i =
     ++ joined (Z .m) (λ k. writeRecord (index (firstIndex (i .header)) k) (i .records k))
     ++ joined (Z .m) (λ k. writeEntry (index (firstIndex (i .header)) k) (i .entries k))
 
--- 01's fresh image: a header, blank records and fresh entries
-unfoldable pub freshImage : Shape → ℕ → Bytes
-freshImage Z c = headerBytes Z c ++ joined (Z .m) (λ k. blankRecord) ++ joined (Z .m) (λ k. freshEntry)
+-- 01's fresh image: a header, here with the index that the log begins at, blank records and fresh entries
+unfoldable pub freshImage : Shape → ℕ → ℕ → Bytes
+freshImage Z c first = headerBytes Z c first ++ joined (Z .m) (λ k. blankRecord) ++ joined (Z .m) (λ k. freshEntry)

@@ -7,7 +7,7 @@ use lib.ListN.{length}
 use Rattle.search.specs.Search.{lowest, all}
 use Rattle.slices.specs.Parts.{Bytes}
 use Rattle.record.specs.declared.Shape.{Shape}
-use Rattle.record.specs.Meaning.{Header, proper, improper, Record, good, blank, bad, Entry, intact, broken}
+use Rattle.record.specs.Meaning.{Header, proper, improper, firstIndex, Record, good, blank, bad, Entry, intact, broken}
 use Rattle.image.specs.Refusal.{refuse, _else_}
 use Rattle.image.specs.Image.{Image, imageSize, decodeImage}
 
@@ -50,7 +50,7 @@ isBlank blank = true
 isBlank (bad b) = false
 
 unfoldable pub isProper : Header → Bool
-isProper proper = true
+isProper (proper first) = true
 isProper (improper b) = false
 
 unfoldable pub isLost : Condition → Bool
@@ -87,10 +87,17 @@ isReplica n c = leb 1 c && leb c n
 unfoldable pub isSlots : ℕ → Bool
 isSlots m = leb 1 m && leb m 64
 
--- what the caller names is out of range, or the buffer has not so many bytes
+-- the editions (02, Six)
+unfoldable pub isEdition : ℕ → Bool
+isEdition e = leb 1 e && leb e 2
+
+-- what the caller names is out of range
+unfoldable pub namedRefusal : Shape → ℕ → ℕ
+namedRefusal Z c = refuse 1 (not (isSlots (Z .m))) else refuse 2 (not (isSize (Z .n) && isEdition (Z .edition) && isReplica (Z .n) c))
+
+-- or the buffer has not so many bytes
 unfoldable pub callRefusal : Shape → ℕ → ℕ → ℕ
-callRefusal Z c size =
-    refuse 1 (not (isSlots (Z .m))) else refuse 2 (not (isSize (Z .n) && isReplica (Z .n) c)) else refuse 3 (not (eqb size (imageSize Z c)))
+callRefusal Z c size = namedRefusal Z c else refuse 3 (not (eqb size (imageSize Z c)))
 
 -- the refusal of reading the image of replica c
 unfoldable pub readRefusal : Shape → ℕ → Bytes → ℕ
@@ -99,6 +106,7 @@ readRefusal Z c b = callRefusal Z c (length b) else imageRefusal (Z .m) (decodeI
 -- what planner and recovery see of a replica
 pub record View : Type 0 where
   pub readable : Bool
+  pub first : ℕ
   pub length : ℕ
   pub condition : ℕ → Condition
   pub epoch : ℕ → ℕ
@@ -107,6 +115,7 @@ pub record View : Type 0 where
 unfoldable pub viewOf : Bool → ℕ → Image → View
 viewOf present m i = record {
   readable = present && eqb (imageRefusal m i) 0;
+  first = firstIndex (i .header);
   length = logLength m i;
   condition = conditionAt i;
   epoch = epochAt i;

@@ -20,9 +20,9 @@ pub enum FormatAnswer {
     Refused(u8),
 }
 
-// The log's length, or the refusal.
+// The log's length and the index of its first slot, or the refusal.
 pub enum ReadAnswer {
-    Length(usize),
+    Log { length: usize, first: u32 },
     Refused(u8),
 }
 

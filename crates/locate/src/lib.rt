@@ -1,14 +1,24 @@
 // Where things stand on a card: sizes and offsets in bytes, said once for all code. Replicas and slots count from 0.
-ghost use Prim.Native.Nat.{_+_, _<_, _≤_};
+ghost use Prim.Native.Nat.{_+_, _-_, _<_, _≤_};
 ghost use mathlib.Core.Path.{_≡_};
-ghost use Rattle.record.specs.Layout.{headerSize};
+ghost use mathlib.Core.Bool.{_&&_};
+ghost use lib.Dec.{leb};
+ghost use Rattle.record.specs.Layout.{givesFirst, headerSize};
+ghost use Rattle.record.specs.Meaning.{isFirst};
 ghost use Rattle.image.specs.Image.{index, imageSize, recordAt, entryAt};
 ghost use Rattle.image.specs.Cluster.{imageAt};
 ghost use Rattle.image.specs.Fits.{ImageFits};
 use record::Shape;
 
-// Document 01's head, line and cell.
+// The editions. A header of the new one gives the index of the first slot (document 02, Six).
+pub const OLD_EDITION: usize = 1;
+
+pub const NEW_EDITION: usize = 2;
+
+// Document 01's head, line and cell. A header that gives the first index is the largest.
 pub const HEADER_SIZE: usize = 28;
+
+pub const FIRST_HEADER_SIZE: usize = 39;
 
 pub const RECORD_SIZE: usize = 34;
 
@@ -27,7 +37,7 @@ pub const LENGTH_WIDTH: usize = 4;
 // A seal ends what it stands in: the checksum of all before it, and a newline.
 pub const SEAL_SIZE: usize = 12;
 
-// In a header, behind its word: edition, replica, n, m, and the seal.
+// In a header, behind its word: edition, replica, n, m, and the seal. The first index, where it is given, stands before the seal.
 pub const EDITION_AT: usize = 4;
 
 pub const REPLICA_AT: usize = 7;
@@ -37,6 +47,10 @@ pub const REPLICAS_AT: usize = 10;
 pub const SLOTS_AT: usize = 13;
 
 pub const HEADER_SEAL_AT: usize = 16;
+
+pub const FIRST_AT: usize = 16;
+
+pub const FIRST_SEAL_AT: usize = 27;
 
 // In a record and in an entry: the epoch, then the index. In a record the seal follows; in an entry the payload's length, the payload and
 // the seal behind it.
@@ -49,14 +63,59 @@ pub const PAYLOAD_AT: usize = 26;
 // A payload has at most so many bytes.
 pub const MAX_PAYLOAD: usize = 200;
 
-// The first slot of a log has this index.
-pub const FIRST_INDEX: u32 = 1;
+// The first slot of a log of the old edition has this index, and no slot of any log has a higher one than the last.
+pub const FIRST_INDEX: u64 = 1;
+
+pub const LAST_INDEX: u64 = 4294967295;
+
+// Whether a header of this shape gives the index of the first slot.
+pub fn gives_first(shape: Shape) -> bool
+    ensures { λ r. ⌜ r ≡ givesFirst shape ⌝ }
+{
+    if shape.edition == NEW_EDITION {
+        return true;
+    }
+    false
+}
 
 // How many bytes the header of an image of this shape has.
 pub fn header_size(shape: Shape) -> usize
     ensures { λ r. ⌜ r ≡ headerSize shape ⌝ }
 {
+    if gives_first(shape) {
+        return FIRST_HEADER_SIZE;
+    }
     HEADER_SIZE
+}
+
+// Whether a log of m slots may begin at that index: not at 0, and its last index is at most LAST_INDEX.
+fn has_room(m: usize, first: u64) -> bool
+    ensures { λ r. ⌜ r ≡ (leb 1 first && leb (first + (m - 1)) 4294967295) ⌝ }
+{
+    if first < 1 {
+        return false;
+    }
+    if LAST_INDEX < first {
+        return false;
+    }
+    let room = LAST_INDEX - first + 1;
+    if room < m as u64 {
+        return false;
+    }
+    true
+}
+
+// Whether a log may begin at that index. In the old edition it begins at 1.
+pub fn is_first(shape: Shape, first: u64) -> bool
+    ensures { λ r. ⌜ r ≡ isFirst shape first ⌝ }
+{
+    if gives_first(shape) {
+        return has_room(shape.m, first);
+    }
+    if first != FIRST_INDEX {
+        return false;
+    }
+    true
 }
 
 // How many bytes the image of replica `replica` (from 1) has.

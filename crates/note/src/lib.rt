@@ -1,4 +1,5 @@
-// What a survey says once a store has been made, so that a run reads no image again. Slot k of replica c stands at c * MAX_SLOTS + k.
+// What a survey says once a store has been made, so that a run reads no image again; where a log begins no store changes. Slot k of
+// replica c stands at c * MAX_SLOTS + k.
 ghost use Prim.Native.Nat.{ℕ, suc, _<_};
 ghost use mathlib.Core.Path.{_≡_};
 ghost use mathlib.Core.Bool.{cond};
@@ -17,6 +18,7 @@ fn with_slot(survey: Survey, c: usize, k: usize, length: usize, condition: u8, e
     requires { ⌜ (c < 7) × (k < 64) ⌝ }
     ensures { λ r. ⌜ SlotSet survey r c k length condition epoch ⌝ }
 {
+    let firsts = survey.firsts;
     let mut lengths = survey.lengths;
     let mut conditions = survey.conditions;
     let mut epochs = survey.epochs;
@@ -25,6 +27,7 @@ fn with_slot(survey: Survey, c: usize, k: usize, length: usize, condition: u8, e
     epochs[c * MAX_SLOTS + k] = epoch;
     Survey {
         readable: survey.readable,
+        firsts,
         lengths,
         conditions,
         epochs,

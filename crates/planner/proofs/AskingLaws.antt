@@ -10,23 +10,24 @@ use Rattle.search.specs.Search.{oneIf}
 use Rattle.slices.specs.Parts.{Bytes}
 use Rattle.slices.proofs.SameLaws.{and-off}
 use Rattle.record.specs.declared.Shape.{Shape}
-use Rattle.image.specs.View.{Condition, Unused, Whole, RecordLost, Faulty, Lost, View, isSize, isSlots, isLost, viewOf, callRefusal, readRefusal}
+use Rattle.image.specs.View.{Condition, Unused, Whole, RecordLost, Faulty, Lost, View, isSize, isSlots, isEdition, isLost, viewOf, callRefusal, readRefusal}
 use Rattle.image.specs.Read.{isWhole}
 use Rattle.image.specs.Cluster.{imageAt, imagePart, decode}
 use Rattle.image.proofs.RefusalLaws.{else-next}
-use Rattle.image.proofs.CallLaws.{is-replica, call-none}
+use Rattle.image.proofs.CallLaws.{is-replica, named-none, call-none}
 use Rattle.image.proofs.ClusterLaws.{length-image}
 use Rattle.planner.specs.Setting.{Setting, has, settingOf, viewsOf}
 use Rattle.planner.specs.Rules.{isFaulty, isUsed, answers, agrees, have, haveFaulty, dontHave}
 use Rattle.planner.specs.Plan.{viewsIn}
 
-pub own-refusal : (Z : Shape) (leader present : ℕ) (b : Bytes) (c : ℕ) → isSize (Z .n) ≡ true → isSlots (Z .m) ≡ true → length b ≡ imageAt Z (Z .n) → c < Z .n
+pub own-refusal : (Z : Shape) (leader present : ℕ) (b : Bytes) (c : ℕ) → isSize (Z .n) ≡ true → isEdition (Z .edition) ≡ true → isSlots (Z .m) ≡ true
+    → length b ≡ imageAt Z (Z .n) → c < Z .n
     → viewsIn (settingOf Z leader present) b c .readable ≡ has present c && eqb (readRefusal Z (suc c) (imagePart Z b c)) 0
 unfolding viewsIn viewsOf settingOf viewOf decode readRefusal
-own-refusal Z leader present b c sized slots size h =
+own-refusal Z leader present b c sized edition slots size h =
     let l = length-image Z b size c h in
     let z : callRefusal Z (suc c) (length (imagePart Z b c)) ≡ 0
-    = sym (call-none Z (suc c) (length (imagePart Z b c)) slots sized (is-replica (Z .n) (suc c) (omega arith) (omega arith)) l) in
+    = sym (call-none Z (suc c) (length (imagePart Z b c)) (named-none Z (suc c) slots sized edition (is-replica (Z .n) (suc c) (omega arith) (omega arith))) refl l) in
     ap (λ (r : ℕ). has present c && eqb r 0) (sym (else-next _ z))
 
 -- the leader answers nothing, nor does one that is away or unreadable

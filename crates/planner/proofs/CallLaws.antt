@@ -1,4 +1,4 @@
--- Refusal 12, and all refusals of planning, step and run that come before what is lent.
+-- Refusals 12 and 21, and all refusals of planning, step and run that come before what is lent.
 use Prim.Native.Nat.{ℕ, pred, _-_, _<_, _≤_}
 use mathlib.Core.Path.{_≡_, refl, sym, _∙_, ap}
 use mathlib.Core.Bool.{Bool, true, false, not, _&&_}
@@ -17,8 +17,10 @@ use Rattle.image.proofs.RefusalLaws.{refuse-zero, else-next, else-first, else-z
 use Rattle.image.proofs.ViewLaws.{length-le}
 use Rattle.image.proofs.CallLaws.{slots-high, size-high, replica-low, replica-high, is-replica}
 use Rattle.planner.specs.Setting.{Setting, has, settingOf, viewsOf}
+use Rattle.planner.specs.Rules.{sameFirsts}
 use Rattle.planner.specs.Plan.{viewsIn, shapeRefusal, clusterRefusal}
-use Rattle.planner.specs.Survey.{Surveyed, SurveyOf}
+use Rattle.planner.specs.Survey.{Surveyed, SurveyOf, sameNumbers}
+use Rattle.planner.proofs.FirstLaws.{numbers-same}
 use Rattle.planner.proofs.ShapeLaws.{shaped-slots, shaped-size}
 
 -- ---- refusal 12
@@ -52,15 +54,17 @@ module _ (readable n leader : ℕ) where
 
 module _ (Z : Shape) (leader present : ℕ) (b : Bytes) where
   cluster-is : clusterRefusal Z leader present b
-      ≡ (shapeRefusal Z present (length b) else refuse 12 (not (isReplica (Z .n) leader && viewsIn (settingOf Z leader present) b (pred leader) .readable)))
+      ≡ (shapeRefusal Z present (length b)
+      else (refuse 12 (not (isReplica (Z .n) leader && viewsIn (settingOf Z leader present) b (pred leader) .readable))
+      else refuse 21 (not (sameFirsts (settingOf Z leader present) (viewsIn (settingOf Z leader present) b)))))
   unfolding clusterRefusal
   cluster-is = refl
 
   pub cluster-shape : {r : ℕ} → r ≡ shapeRefusal Z present (length b) → (r ≡ 0 → ⊥) → r ≡ clusterRefusal Z leader present b
   cluster-shape e z = e ∙ sym (else-first _ _ (λ q. z (e ∙ q))) ∙ sym cluster-is
 
-  module _ (z : shapeRefusal Z present (length b) ≡ 0) (readable : ℕ) (lengths conditions epochs : List ℕ)
-      (s : Surveyed (Z .n) (Z .m) (viewsIn (settingOf Z leader present) b) readable lengths conditions epochs) where
+  module _ (z : shapeRefusal Z present (length b) ≡ 0) (readable : ℕ) (firsts lengths conditions epochs : List ℕ)
+      (s : Surveyed (Z .n) (Z .m) (viewsIn (settingOf Z leader present) b) readable firsts lengths conditions epochs) where
     leader-same : (isReplica (Z .n) leader && has readable (pred leader)) ≡ (isReplica (Z .n) leader && viewsIn (settingOf Z leader present) b (pred leader) .readable)
     leader-same = go (isReplica (Z .n) leader) refl
       where
@@ -68,45 +72,93 @@ module _ (Z : Shape) (leader present : ℕ) (b : Bytes) where
         go true e = s .readable-is (pred leader) (replica-below (Z .n) leader e)
         go false e = refl
 
-    pub cluster-leader : {r : ℕ} → r ≡ refuse 12 (not (isReplica (Z .n) leader && has readable (pred leader))) → r ≡ clusterRefusal Z leader present b
-    cluster-leader e = e ∙ ap (λ (t : Bool). refuse 12 (not t)) leader-same ∙ sym (else-next _ z) ∙ sym cluster-is
+    leader-tests : refuse 12 (not (isReplica (Z .n) leader && has readable (pred leader)))
+        ≡ refuse 12 (not (isReplica (Z .n) leader && viewsIn (settingOf Z leader present) b (pred leader) .readable))
+    leader-tests = ap (λ (t : Bool). refuse 12 (not t)) leader-same
 
-    pub cluster-survey : refuse 12 (not (isReplica (Z .n) leader && has readable (pred leader))) ≡ 0
-        → SurveyOf (settingOf Z leader present) (viewsIn (settingOf Z leader present) b) (Z .n) (leader - 1) readable lengths conditions epochs
-    unfolding settingOf viewsIn viewsOf viewOf
-    cluster-survey e = record {
-      n-is = refl;
-      leader-is = sym (pred-is readable (Z .n) leader);
-      few = size-high (Z .n) (shaped-size Z present (length b) z);
-      leader-below = rw (pred-is readable (Z .n) leader) (replica-below (Z .n) leader (and-left (isReplica (Z .n) leader) (has readable (pred leader)) on));
-      slots-fit = slots-high (Z .m) (shaped-slots Z present (length b) z);
-      leader-reads = rw (pred-is readable (Z .n) leader) (sym (s .readable-is (pred leader) (replica-below (Z .n) leader (and-left (isReplica (Z .n) leader) (has readable (pred leader)) on))) ∙ and-right (isReplica (Z .n) leader) (has readable (pred leader)) on);
-      logs-fit = λ c. length-le (Z .m) (decode Z b c);
-      surveyed = s;
-    }
-      where
-        on : (isReplica (Z .n) leader && has readable (pred leader)) ≡ true
-        on = not-false _ (refuse-zero 11 _ e)
+    -- refused by 12
+    pub cluster-leader : {r : ℕ} → r ≡ refuse 12 (not (isReplica (Z .n) leader && has readable (pred leader))) → (r ≡ 0 → ⊥) → r ≡ clusterRefusal Z leader present b
+    cluster-leader e f = e ∙ leader-tests ∙ sym (else-first _ _ (λ q. f (e ∙ leader-tests ∙ q))) ∙ sym (else-next _ z) ∙ sym cluster-is
+
+    module _ {v : ℕ} (e : v ≡ refuse 12 (not (isReplica (Z .n) leader && has readable (pred leader)))) (none : v ≡ 0) where
+      on : (isReplica (Z .n) leader && has readable (pred leader)) ≡ true
+      on = not-false _ (refuse-zero 11 _ (sym e ∙ none))
+
+      within : pred leader < Z .n
+      within = replica-below (Z .n) leader (and-left (isReplica (Z .n) leader) (has readable (pred leader)) on)
+
+      reads : viewsIn (settingOf Z leader present) b (pred leader) .readable ≡ true
+      reads = sym (s .readable-is (pred leader) within) ∙ and-right (isReplica (Z .n) leader) (has readable (pred leader)) on
+
+      first-tests : sameNumbers (Z .n) (leader - 1) readable firsts ≡ sameFirsts (settingOf Z leader present) (viewsIn (settingOf Z leader present) b)
+      unfolding settingOf
+      first-tests = rw (pred-is readable (Z .n) leader) (numbers-same s (settingOf Z leader present) refl within reads)
+
+      -- the leader counts from 0 behind 12
+      pub leader-within : (1 ≤ leader) × (leader - 1 < Z .n)
+      unfolding isReplica
+      leader-within = (leb-true 1 leader (and-left (leb 1 leader) (leb leader (Z .n)) (and-left (isReplica (Z .n) leader) (has readable (pred leader)) on)), omega (arith, within))
+
+      -- then 21, or nothing
+      pub cluster-firsts : {r : ℕ} → r ≡ refuse 21 (not (sameNumbers (Z .n) (leader - 1) readable firsts)) → r ≡ clusterRefusal Z leader present b
+      cluster-firsts q =
+          q ∙ ap (λ (t : Bool). refuse 21 (not t)) first-tests ∙ sym (else-next _ (sym leader-tests ∙ sym e ∙ none)) ∙ sym (else-next _ z) ∙ sym cluster-is
+
+      pub cluster-survey : refuse 21 (not (sameNumbers (Z .n) (leader - 1) readable firsts)) ≡ 0
+          → SurveyOf (settingOf Z leader present) (viewsIn (settingOf Z leader present) b) (Z .n) (leader - 1) readable firsts lengths conditions epochs
+      unfolding settingOf viewsIn viewsOf viewOf
+      cluster-survey q = record {
+        n-is = refl;
+        leader-is = sym (pred-is readable (Z .n) leader);
+        few = size-high (Z .n) (shaped-size Z present (length b) z);
+        leader-below = rw (pred-is readable (Z .n) leader) within;
+        slots-fit = slots-high (Z .m) (shaped-slots Z present (length b) z);
+        leader-reads = rw (pred-is readable (Z .n) leader) reads;
+        same-firsts = sym first-tests ∙ not-false _ (refuse-zero 20 _ q);
+        logs-fit = λ c. length-le (Z .m) (decode Z b c);
+        surveyed = s;
+      }
 
 -- what the plan of a survey asks
-pub survey-asks : {S : Setting} {W : ℕ → View} {n leader readable : ℕ} {lengths conditions epochs : List ℕ} → SurveyOf S W n leader readable lengths conditions epochs
+pub survey-asks : {S : Setting} {W : ℕ → View} {n leader readable : ℕ} {firsts lengths conditions epochs : List ℕ} → SurveyOf S W n leader readable firsts lengths conditions epochs
     → (n ≤ 7) × (leader < n) × (getD lengths leader 0 ≤ 64)
 survey-asks {S} {W} {n} {leader} o =
     (o .few, o .leader-below, omega (arith, o .surveyed .length-is leader (o .leader-below) (o .leader-reads), o .logs-fit leader, o .slots-fit))
 
--- the leader is a replica of the cluster, and is read
-pub leader-accepted : (Z : Shape) (leader present : ℕ) (b : Bytes) → clusterRefusal Z leader present b ≡ 0
-    → (pred leader < Z .n) × (viewsIn (settingOf Z leader present) b (pred leader) .readable ≡ true)
-leader-accepted Z leader present b e =
-    let z = not-false _ (refuse-zero 11 _ (else-zero-r _ _ (sym (cluster-is Z leader present b) ∙ e))) in
-    (replica-below (Z .n) leader (and-left (isReplica (Z .n) leader) _ z), and-right (isReplica (Z .n) leader) _ z)
+-- ---- a cluster that is not refused
 
--- its number counts from 1
-pub leader-first : (Z : Shape) (leader present : ℕ) (b : Bytes) → clusterRefusal Z leader present b ≡ 0 → 1 ≤ leader
-unfolding isReplica
-leader-first Z leader present b e =
-    let z = else-zero-r _ _ (sym (cluster-is Z leader present b) ∙ e) in
-    leb-true 1 leader (and-left (leb 1 leader) (leb leader (Z .n)) (and-left (isReplica (Z .n) leader) (viewsIn (settingOf Z leader present) b (pred leader) .readable) (not-false _ (refuse-zero 11 _ z))))
+module _ (Z : Shape) (leader present : ℕ) (b : Bytes) (e : clusterRefusal Z leader present b ≡ 0) where
+  pub cluster-shaped : shapeRefusal Z present (length b) ≡ 0
+  cluster-shaped = else-zero-l _ _ (sym (cluster-is Z leader present b) ∙ e)
 
-pub cluster-shaped : (Z : Shape) (leader present : ℕ) (b : Bytes) → clusterRefusal Z leader present b ≡ 0 → shapeRefusal Z present (length b) ≡ 0
-cluster-shaped Z leader present b e = else-zero-l _ _ (sym (cluster-is Z leader present b) ∙ e)
+  behind-shape : (refuse 12 (not (isReplica (Z .n) leader && viewsIn (settingOf Z leader present) b (pred leader) .readable))
+      else refuse 21 (not (sameFirsts (settingOf Z leader present) (viewsIn (settingOf Z leader present) b)))) ≡ 0
+  behind-shape = else-zero-r _ _ (sym (cluster-is Z leader present b) ∙ e)
+
+  leads : (isReplica (Z .n) leader && viewsIn (settingOf Z leader present) b (pred leader) .readable) ≡ true
+  leads = not-false _ (refuse-zero 11 _ (else-zero-l _ _ behind-shape))
+
+  -- the leader is a replica of the cluster, and is read
+  pub leader-accepted : (pred leader < Z .n) × (viewsIn (settingOf Z leader present) b (pred leader) .readable ≡ true)
+  leader-accepted = (
+    replica-below (Z .n) leader (and-left (isReplica (Z .n) leader) (viewsIn (settingOf Z leader present) b (pred leader) .readable) leads),
+    and-right (isReplica (Z .n) leader) (viewsIn (settingOf Z leader present) b (pred leader) .readable) leads,
+  )
+
+  -- its number counts from 1
+  pub leader-first : 1 ≤ leader
+  unfolding isReplica
+  leader-first =
+      leb-true 1 leader (and-left (leb 1 leader) (leb leader (Z .n)) (and-left (isReplica (Z .n) leader) (viewsIn (settingOf Z leader present) b (pred leader) .readable) leads))
+
+  -- and every readable replica has its first index
+  pub firsts-accepted : sameFirsts (settingOf Z leader present) (viewsIn (settingOf Z leader present) b) ≡ true
+  firsts-accepted = not-false _ (refuse-zero 20 _ (else-zero-r _ _ behind-shape))
+
+-- the refusal looks at the bytes through these three alone
+pub cluster-cong : (Z : Shape) (leader present : ℕ) (a b : Bytes) → length a ≡ length b
+    → viewsIn (settingOf Z leader present) a (pred leader) .readable ≡ viewsIn (settingOf Z leader present) b (pred leader) .readable
+    → sameFirsts (settingOf Z leader present) (viewsIn (settingOf Z leader present) a) ≡ sameFirsts (settingOf Z leader present) (viewsIn (settingOf Z leader present) b)
+    → clusterRefusal Z leader present a ≡ clusterRefusal Z leader present b
+cluster-cong Z leader present a b l r f =
+    cluster-is Z leader present a ∙ (λ i. shapeRefusal Z present (l i) else (refuse 12 (not (isReplica (Z .n) leader && r i)) else refuse 21 (not (f i)))) ∙ sym (cluster-is Z leader present b)

@@ -7,89 +7,95 @@ use native.Mathlib.Nat.{suc-pred-eq-of-pos}
 use lib.Dec.{eqb, leb, ltb}
 use lib.ListN.{length}
 use borrow.Author.Tests.{eqb-true, eq-eqb, ne-eqb, leb-true, ltb-true, lt-ltb}
+use Rattle.search.specs.Search.{lowest}
 use Rattle.slices.specs.Parts.{Bytes}
 use Rattle.slices.proofs.SameLaws.{and-left, and-right, and-true}
 use Rattle.record.specs.declared.Shape.{Shape}
 use Rattle.image.specs.Refusal.{refuse, _else_}
-use Rattle.image.specs.View.{isSize, isReplica, isSlots, readRefusal}
-use Rattle.image.specs.Cluster.{imageAt, imagePart}
-use Rattle.image.proofs.CallLaws.{is-slots, slots-low, slots-high, is-size, size-low, size-high, is-replica}
+use Rattle.image.specs.View.{isSize, isReplica, isSlots, isEdition, readRefusal}
+use Rattle.image.specs.Cluster.{imageAt, imagePart, firstAt}
+use Rattle.image.proofs.CallLaws.{is-slots, slots-low, slots-high, is-size, size-low, size-high, is-replica, is-edition, edition-from, edition-to}
 use Rattle.planner.specs.Setting.{settingOf, has}
+use Rattle.planner.specs.Rules.{sameFirsts}
 use Rattle.planner.specs.Plan.{viewsIn, shapeRefusal, clusterRefusal, lentRefusal, planRefusal}
-use Rattle.planner.specs.ClusterRefusalClaim.{LowestApplying, InSet, ClusterRefused, PlanRefused, slots, replicas, size, stray, no-leader, away, unreadable, cluster, plan, table}
+use Rattle.planner.specs.ClusterRefusalClaim.{tried, rank, FirstApplying, InSet, ClusterRefused, PlanRefused, slots, replicas, edition, size, stray, no-leader, away, unreadable, other-first, cluster, plan, table}
 use Rattle.planner.proofs.AskingLaws.{own-refusal}
+use Rattle.planner.proofs.FirstLaws.{same-off, same-other, view-first, first-one}
 use Rattle.planner.proofs.BitLaws.{high-one, no-high-one}
 
 -- ---- tests tried in turn
 
--- the refusal of a cluster by what its five tests say
-abbrev chain : Bool → Bool → Bool → Bool → Bool → ℕ
-chain s z l w i = (refuse 1 (not s) else refuse 2 (not z) else refuse 3 (not l) else refuse 11 (not w)) else refuse 12 (not i)
+-- the refusal of a cluster by what its six tests say
+abbrev chain : Bool → Bool → Bool → Bool → Bool → Bool → ℕ
+chain s z l w i f = (refuse 1 (not s) else refuse 2 (not z) else refuse 3 (not l) else refuse 11 (not w)) else refuse 12 (not i) else refuse 21 (not f)
 
--- a refusal, by q or a lower number
+-- a refusal, by q or a number before it
 abbrev UpTo : ℕ → ℕ → Type 0
-UpTo q r = (1 ≤ r) × (r ≤ q)
+UpTo q r = (1 ≤ r) × (rank r ≤ rank q)
 
-by-slots : (s z l w i : Bool) → s ≡ false → UpTo 1 (chain s z l w i)
+by-slots : (s z l w i f : Bool) → s ≡ false → UpTo 1 (chain s z l w i f)
 unfolding refuse _else_
-by-slots true z l w i e = absurd (true≢false e)
-by-slots false z l w i e = (omega arith, omega arith)
+by-slots true z l w i f e = absurd (true≢false e)
+by-slots false z l w i f e = (omega arith, omega arith)
 
-by-replicas : (s z l w i : Bool) → z ≡ false → UpTo 2 (chain s z l w i)
-unfolding refuse _else_
-by-replicas false z l w i e = (omega arith, omega arith)
-by-replicas true true l w i e = absurd (true≢false e)
-by-replicas true false l w i e = (omega arith, omega arith)
+by-replicas : (s z l w i f : Bool) → z ≡ false → UpTo 2 (chain s z l w i f)
+unfolding refuse _else_ rank tried lowest
+by-replicas false z l w i f e = (omega arith, omega arith)
+by-replicas true true l w i f e = absurd (true≢false e)
+by-replicas true false l w i f e = (omega arith, omega arith)
 
-by-size : (s z l w i : Bool) → l ≡ false → UpTo 3 (chain s z l w i)
-unfolding refuse _else_
-by-size false z l w i e = (omega arith, omega arith)
-by-size true false l w i e = (omega arith, omega arith)
-by-size true true true w i e = absurd (true≢false e)
-by-size true true false w i e = (omega arith, omega arith)
+by-size : (s z l w i f : Bool) → l ≡ false → UpTo 3 (chain s z l w i f)
+unfolding refuse _else_ rank tried lowest
+by-size false z l w i f e = (omega arith, omega arith)
+by-size true false l w i f e = (omega arith, omega arith)
+by-size true true true w i f e = absurd (true≢false e)
+by-size true true false w i f e = (omega arith, omega arith)
 
-by-set : (s z l w i : Bool) → w ≡ false → UpTo 11 (chain s z l w i)
-unfolding refuse _else_
-by-set false z l w i e = (omega arith, omega arith)
-by-set true false l w i e = (omega arith, omega arith)
-by-set true true false w i e = (omega arith, omega arith)
-by-set true true true true i e = absurd (true≢false e)
-by-set true true true false i e = (omega arith, omega arith)
+by-set : (s z l w i f : Bool) → w ≡ false → UpTo 11 (chain s z l w i f)
+unfolding refuse _else_ rank tried lowest
+by-set false z l w i f e = (omega arith, omega arith)
+by-set true false l w i f e = (omega arith, omega arith)
+by-set true true false w i f e = (omega arith, omega arith)
+by-set true true true true i f e = absurd (true≢false e)
+by-set true true true false i f e = (omega arith, omega arith)
 
-by-leader : (s z l w i : Bool) → (s ≡ true → z ≡ true → l ≡ true → i ≡ false) → UpTo 12 (chain s z l w i)
-unfolding refuse _else_
-by-leader false z l w i f = (omega arith, omega arith)
-by-leader true false l w i f = (omega arith, omega arith)
-by-leader true true false w i f = (omega arith, omega arith)
-by-leader true true true false i f = (omega arith, omega arith)
-by-leader true true true true true f = absurd (true≢false (f refl refl refl))
-by-leader true true true true false f = (omega arith, omega arith)
+by-leader : (s z l w i f : Bool) → (s ≡ true → z ≡ true → l ≡ true → i ≡ false) → UpTo 12 (chain s z l w i f)
+unfolding refuse _else_ rank tried lowest
+by-leader false z l w i f h = (omega arith, omega arith)
+by-leader true false l w i f h = (omega arith, omega arith)
+by-leader true true false w i f h = (omega arith, omega arith)
+by-leader true true true false i f h = (omega arith, omega arith)
+by-leader true true true true true f h = absurd (true≢false (h refl refl refl))
+by-leader true true true true false f h = (omega arith, omega arith)
 
-up-to-12 : (s z l w i : Bool) → chain s z l w i ≤ 12
-unfolding refuse _else_
-up-to-12 false z l w i = omega arith
-up-to-12 true false l w i = omega arith
-up-to-12 true true false w i = omega arith
-up-to-12 true true true false i = omega arith
-up-to-12 true true true true true = omega arith
-up-to-12 true true true true false = omega arith
+by-first : (s z l w i f : Bool) → (s ≡ true → z ≡ true → l ≡ true → f ≡ false) → UpTo 21 (chain s z l w i f)
+unfolding refuse _else_ rank tried lowest
+by-first false z l w i f h = (omega arith, omega arith)
+by-first true false l w i f h = (omega arith, omega arith)
+by-first true true false w i f h = (omega arith, omega arith)
+by-first true true true false i f h = (omega arith, omega arith)
+by-first true true true true false f h = (omega arith, omega arith)
+by-first true true true true true true h = absurd (true≢false (h refl refl refl))
+by-first true true true true true false h = (omega arith, omega arith)
 
 -- what is refused fails the test of its number
-shown : (P : ℕ → Type 0) (s z l w i : Bool) → (s ≡ false → P 1) → (z ≡ false → P 2) → (l ≡ false → P 3) → (w ≡ false → P 11)
-    → (s ≡ true → z ≡ true → l ≡ true → i ≡ false → P 12) → ¬ (chain s z l w i ≡ 0) → P (chain s z l w i)
+shown : (P : ℕ → Type 0) (s z l w i f : Bool) → (s ≡ false → P 1) → (z ≡ false → P 2) → (l ≡ false → P 3) → (w ≡ false → P 11)
+    → (s ≡ true → z ≡ true → l ≡ true → i ≡ false → P 12) → (s ≡ true → z ≡ true → l ≡ true → f ≡ false → P 21)
+    → ¬ (chain s z l w i f ≡ 0) → P (chain s z l w i f)
 unfolding refuse _else_
-shown P false z l w i p q r t u h = p refl
-shown P true false l w i p q r t u h = q refl
-shown P true true false w i p q r t u h = r refl
-shown P true true true false i p q r t u h = t refl
-shown P true true true true false p q r t u h = u refl refl refl refl
-shown P true true true true true p q r t u h = absurd (h refl)
+shown P false z l w i f p q r t u v h = p refl
+shown P true false l w i f p q r t u v h = q refl
+shown P true true false w i f p q r t u v h = r refl
+shown P true true true false i f p q r t u v h = t refl
+shown P true true true true false f p q r t u v h = u refl refl refl refl
+shown P true true true true true false p q r t u v h = v refl refl refl refl
+shown P true true true true true true p q r t u v h = absurd (h refl)
 
--- every refusal that applies has at least the number that is answered
-lowest-of : {P : ℕ → Type 0} {r : ℕ} → (¬ (r ≡ 0) → P r) → ((q : ℕ) → P q → UpTo q r) → LowestApplying P r
-lowest-of f g = record {
+-- no refusal that applies stands before the one that is answered
+first-of : {P : ℕ → Type 0} {r : ℕ} → (¬ (r ≡ 0) → P r) → ((q : ℕ) → P q → UpTo q r) → FirstApplying P r
+first-of f g = record {
   applies = f;
-  below = λ q l p. let u = g q p in omega (arith, u .1);
+  before = λ q l p. let u = g q p in omega (arith, u .1);
   none = λ z q p. let u = g q p in omega (arith, u .0);
 }
 
@@ -107,14 +113,44 @@ unfolding isReplica
 within n c e = (leb-true 1 c (and-left (leb 1 c) (leb c n) e), leb-true c n (and-right (leb 1 c) (leb c n) e))
 
 module _ (Z : Shape) (leading present : ℕ) (b : Bytes) where
+  -- the six tests
+  abbrev counts : Bool
+  counts = isSlots (Z .m)
+
+  abbrev names : Bool
+  names = isSize (Z .n) && isEdition (Z .edition)
+
+  abbrev fits : Bool
+  fits = eqb (length b) (imageAt Z (Z .n))
+
+  abbrev bits : Bool
+  bits = ltb present (2 ^ Z .n)
+
   abbrev leads : Bool
   leads = isReplica (Z .n) leading && viewsIn (settingOf Z leading present) b (pred leading) .readable
+
+  abbrev begins : Bool
+  begins = sameFirsts (settingOf Z leading present) (viewsIn (settingOf Z leading present) b)
 
   abbrev unrefused : Bool
   unrefused = eqb (readRefusal Z leading (imagePart Z b (pred leading))) 0
 
-  module _ (s : isSlots (Z .m) ≡ true) (z : isSize (Z .n) ≡ true) (l : eqb (length b) (imageAt Z (Z .n)) ≡ true) where
-    -- the leader is readable if it is in the set and its own image is not refused
+  names-not : names ≡ false → ClusterRefused Z leading present b 2
+  names-not e = go (isSize (Z .n)) (isEdition (Z .edition)) refl refl
+    where
+      go : (x y : Bool) → isSize (Z .n) ≡ x → isEdition (Z .edition) ≡ y → ClusterRefused Z leading present b 2
+      go false y p q = replicas (λ h. so-not p (is-size (Z .n) (omega (arith, h .0)) (omega (arith, h .1))))
+      go true false p q = edition (λ h. so-not q (is-edition (Z .edition) (omega (arith, h .0)) (omega (arith, h .1))))
+      go true true p q = absurd (so-not e (and-true (isSize (Z .n)) (isEdition (Z .edition)) p q))
+
+  module _ (s : counts ≡ true) (z : names ≡ true) (l : fits ≡ true) where
+    -- a replica is readable if it is in the set and its own image is not refused
+    each : (c : ℕ) → c < Z .n → viewsIn (settingOf Z leading present) b c .readable ≡ has present c && eqb (readRefusal Z (suc c) (imagePart Z b c)) 0
+    each c h =
+        own-refusal Z leading present b c (and-left (isSize (Z .n)) (isEdition (Z .edition)) z) (and-right (isSize (Z .n)) (isEdition (Z .edition)) z) s
+        (eqb-true (length b) (imageAt Z (Z .n)) l) h
+
+    -- the leader by its number
     own : (1 ≤ leading) × (leading ≤ Z .n) → viewsIn (settingOf Z leading present) b (pred leading) .readable ≡ has present (pred leading) && unrefused
     own h =
         let e = suc-pred-eq-of-pos (h .0) in
@@ -122,7 +158,7 @@ module _ (Z : Shape) (leading present : ℕ) (b : Bytes) where
         subst
         (λ (x : ℕ). viewsIn (settingOf Z leading present) b (pred leading) .readable ≡ has present (pred leading) && eqb (readRefusal Z x (imagePart Z b (pred leading))) 0)
         e
-        (own-refusal Z leading present b (pred leading) z s (eqb-true (length b) (imageAt Z (Z .n)) l) k)
+        (each (pred leading) k)
 
     led : leads ≡ true → has present (pred leading) && unrefused ≡ true
     led e =
@@ -141,37 +177,90 @@ module _ (Z : Shape) (leading present : ℕ) (b : Bytes) where
             absurd (so-not e (and-true (isReplica (Z .n) leading) (viewsIn (settingOf Z leading present) b (pred leading) .readable) p
             (own (within (Z .n) leading p) ∙ and-true (has present (pred leading)) unrefused q r)))
 
+    begins-not : begins ≡ false → ClusterRefused Z leading present b 21
+    unfolding has settingOf
+    begins-not e =
+        let o = same-other (settingOf Z leading present) (viewsIn (settingOf Z leading present) b) e in
+        let r = sym (each (o .at) (o .within)) ∙ o .reads in
+        other-first (o .at) (omega (arith, o .within)) (eqb-true (present / 2 ^ (o .at) % 2) 1 (and-left (has present (o .at)) (eqb (readRefusal Z (suc (o .at)) (imagePart Z b (o .at))) 0) r))
+        (omega (arith, eqb-true (readRefusal Z (suc (o .at)) (imagePart Z b (o .at))) 0 (and-right (has present (o .at)) (eqb (readRefusal Z (suc (o .at)) (imagePart Z b (o .at))) 0) r)))
+        (λ q. o .differs (omega (arith, q, view-first (settingOf Z leading present) b (o .at), view-first (settingOf Z leading present) b (pred leading))))
+
+    begins-off : (c : ℕ) → c < Z .n → InSet present c → readRefusal Z (suc c) (imagePart Z b c) ≡ 0 → ¬ (firstAt Z b c ≡ firstAt Z b (pred leading)) → begins ≡ false
+    unfolding has settingOf
+    begins-off c h i r q =
+        same-off (settingOf Z leading present) (viewsIn (settingOf Z leading present) b) c h
+        (each c h ∙ and-true (has present c) (eqb (readRefusal Z (suc c) (imagePart Z b c)) 0) (eq-eqb (present / 2 ^ c % 2) 1 i) (eq-eqb (readRefusal Z (suc c) (imagePart Z b c)) 0 r))
+        (λ e. q (omega (arith, e, view-first (settingOf Z leading present) b c, view-first (settingOf Z leading present) b (pred leading))))
+
   applies : ¬ (clusterRefusal Z leading present b ≡ 0) → ClusterRefused Z leading present b (clusterRefusal Z leading present b)
   unfolding clusterRefusal shapeRefusal
   applies h =
-      shown (ClusterRefused Z leading present b) (isSlots (Z .m)) (isSize (Z .n)) (eqb (length b) (imageAt Z (Z .n))) (ltb present (2 ^ Z .n)) leads
+      shown (ClusterRefused Z leading present b) counts names fits bits leads begins
       (λ e. slots (λ p. so-not e (is-slots (Z .m) (p .0) (p .1))))
-      (λ e. replicas (λ p. so-not e (is-size (Z .n) (omega (arith, p .0)) (omega (arith, p .1)))))
+      names-not
       (λ e. size (λ p. so-not e (eq-eqb (length b) (imageAt Z (Z .n)) p)))
       (λ e. let i = high-one (Z .n) present (λ p. so-not e (lt-ltb present (2 ^ Z .n) p)) in stray (i .at) (omega (arith, i .from)) (i .is))
       leads-not
+      begins-not
       h
 
   at-most : (q : ℕ) → ClusterRefused Z leading present b q → UpTo q (clusterRefusal Z leading present b)
   unfolding clusterRefusal shapeRefusal has
-  at-most q (slots h) = by-slots (isSlots (Z .m)) (isSize (Z .n)) (eqb (length b) (imageAt Z (Z .n))) (ltb present (2 ^ Z .n)) leads (not-so (isSlots (Z .m)) (λ e. h (slots-low (Z .m) e, slots-high (Z .m) e)))
-  at-most q (replicas h) = by-replicas (isSlots (Z .m)) (isSize (Z .n)) (eqb (length b) (imageAt Z (Z .n))) (ltb present (2 ^ Z .n)) leads (not-so (isSize (Z .n)) (λ e. h (omega (arith, size-low (Z .n) e), omega (arith, size-high (Z .n) e))))
-  at-most q (size h) =
-      by-size (isSlots (Z .m)) (isSize (Z .n)) (eqb (length b) (imageAt Z (Z .n))) (ltb present (2 ^ Z .n)) leads (not-so (eqb (length b) (imageAt Z (Z .n))) (λ e. h (eqb-true (length b) (imageAt Z (Z .n)) e)))
-  at-most q (stray c l h) =
-      by-set (isSlots (Z .m)) (isSize (Z .n)) (eqb (length b) (imageAt Z (Z .n))) (ltb present (2 ^ Z .n)) leads (not-so (ltb present (2 ^ Z .n)) (λ e. no-high-one (Z .n) present c (ltb-true present (2 ^ Z .n) e) (omega arith) h))
+  at-most q (slots h) = by-slots counts names fits bits leads begins (not-so counts (λ e. h (slots-low (Z .m) e, slots-high (Z .m) e)))
+  at-most q (replicas h) =
+      by-replicas counts names fits bits leads begins
+      (not-so names (λ e. let s = and-left (isSize (Z .n)) (isEdition (Z .edition)) e in h (omega (arith, size-low (Z .n) s), omega (arith, size-high (Z .n) s))))
+  at-most q (edition h) =
+      by-replicas counts names fits bits leads begins
+      (not-so names (λ e. let s = and-right (isSize (Z .n)) (isEdition (Z .edition)) e in h (omega (arith, edition-from (Z .edition) s), omega (arith, edition-to (Z .edition) s))))
+  at-most q (size h) = by-size counts names fits bits leads begins (not-so fits (λ e. h (eqb-true (length b) (imageAt Z (Z .n)) e)))
+  at-most q (stray c l h) = by-set counts names fits bits leads begins (not-so bits (λ e. no-high-one (Z .n) present c (ltb-true present (2 ^ Z .n) e) (omega arith) h))
   at-most q (no-leader h) =
-      by-leader (isSlots (Z .m)) (isSize (Z .n)) (eqb (length b) (imageAt Z (Z .n))) (ltb present (2 ^ Z .n)) leads
+      by-leader counts names fits bits leads begins
       (λ s z l. not-so leads (λ e. h (within (Z .n) leading (and-left (isReplica (Z .n) leading) (viewsIn (settingOf Z leading present) b (pred leading) .readable) e))))
   at-most q (away h) =
-      by-leader (isSlots (Z .m)) (isSize (Z .n)) (eqb (length b) (imageAt Z (Z .n))) (ltb present (2 ^ Z .n)) leads
+      by-leader counts names fits bits leads begins
       (λ s z l. not-so leads (λ e. h (eqb-true (present / 2 ^ pred leading % 2) 1 (and-left (has present (pred leading)) unrefused (led s z l e)))))
   at-most q (unreadable h) =
-      by-leader (isSlots (Z .m)) (isSize (Z .n)) (eqb (length b) (imageAt Z (Z .n))) (ltb present (2 ^ Z .n)) leads
+      by-leader counts names fits bits leads begins
       (λ s z l. not-so leads (λ e. h (eqb-true (readRefusal Z leading (imagePart Z b (pred leading))) 0 (and-right (has present (pred leading)) unrefused (led s z l e)))))
+  at-most q (other-first c h i r d) = by-first counts names fits bits leads begins (λ s z l. begins-off s z l c (omega (arith, h)) i (omega (arith, r)) d)
 
-  pub cluster-lowest : LowestApplying (ClusterRefused Z leading present b) (clusterRefusal Z leading present b)
-  cluster-lowest = lowest-of applies at-most
+  pub cluster-first : FirstApplying (ClusterRefused Z leading present b) (clusterRefusal Z leading present b)
+  cluster-first = first-of applies at-most
+
+  -- every number stands before 13
+  ranked : (q : ℕ) → ClusterRefused Z leading present b q → rank q ≤ rank 13
+  unfolding rank tried lowest
+  ranked q (slots h) = omega arith
+  ranked q (replicas h) = omega arith
+  ranked q (edition h) = omega arith
+  ranked q (size h) = omega arith
+  ranked q (stray c l h) = omega arith
+  ranked q (no-leader h) = omega arith
+  ranked q (away h) = omega arith
+  ranked q (unreadable h) = omega arith
+  ranked q (other-first c h i r d) = omega arith
+
+  -- in edition 1 the logs begin at one index
+  pub never-other : Z .edition ≡ 1 → ¬ (clusterRefusal Z leading present b ≡ 21)
+  unfolding settingOf
+  never-other one e = go (clusterRefusal Z leading present b) e (applies (λ z. omega arith))
+    where
+      at-one : (c : ℕ) → firstAt Z b c ≡ 1
+      at-one c = sym (view-first (settingOf Z leading present) b c) ∙ first-one (settingOf Z leading present) b c one
+
+      go : (q : ℕ) → q ≡ 21 → ClusterRefused Z leading present b q → ⊥
+      go q e (slots h) = omega arith
+      go q e (replicas h) = omega arith
+      go q e (edition h) = omega arith
+      go q e (size h) = omega arith
+      go q e (stray c l h) = omega arith
+      go q e (no-leader h) = omega arith
+      go q e (away h) = omega arith
+      go q e (unreadable h) = omega arith
+      go q e (other-first c h i r d) = d (at-one c ∙ sym (at-one (pred leading)))
 
 -- ---- 13, after the others
 
@@ -186,19 +275,18 @@ unfolding refuse _else_
 lent-lower zero t q u = absurd (omega (arith, u .0))
 lent-lower (suc r) t q u = u
 
-by-lent : (r : ℕ) (t : Bool) → r ≤ 12 → t ≡ false → UpTo 13 (r else refuse 13 (not t))
+by-lent : (r : ℕ) (t : Bool) → (¬ (r ≡ 0) → rank r ≤ rank 13) → t ≡ false → UpTo 13 (r else refuse 13 (not t))
 unfolding refuse _else_
 by-lent zero true h e = absurd (true≢false e)
 by-lent zero false h e = (omega arith, omega arith)
-by-lent (suc r) t h e = (omega arith, omega arith)
+by-lent (suc r) t h e = (omega arith, h (omega arith))
 
 module _ (Z : Shape) (leading present : ℕ) (b : Bytes) (bytes rows : ℕ) where
   abbrev lent : Bool
   lent = eqb bytes (Z .m) && eqb rows (Z .n)
 
-  few : clusterRefusal Z leading present b ≤ 12
-  unfolding clusterRefusal shapeRefusal
-  few = up-to-12 (isSlots (Z .m)) (isSize (Z .n)) (eqb (length b) (imageAt Z (Z .n))) (ltb present (2 ^ Z .n)) (leads Z leading present b)
+  early : ¬ (clusterRefusal Z leading present b ≡ 0) → rank (clusterRefusal Z leading present b) ≤ rank 13
+  early h = ranked Z leading present b (clusterRefusal Z leading present b) (applies Z leading present b h)
 
   lent-not : lent ≡ false → PlanRefused Z leading present b bytes rows 13
   lent-not e = go (eqb bytes (Z .m)) (eqb rows (Z .n)) refl refl
@@ -211,12 +299,12 @@ module _ (Z : Shape) (leading present : ℕ) (b : Bytes) (bytes rows : ℕ) wher
   plan-at-most : (q : ℕ) → PlanRefused Z leading present b bytes rows q → UpTo q (planRefusal Z leading present b bytes rows)
   unfolding planRefusal lentRefusal
   plan-at-most q (cluster r) = lent-lower (clusterRefusal Z leading present b) lent q (at-most Z leading present b q r)
-  plan-at-most q (plan h) = by-lent (clusterRefusal Z leading present b) lent few (not-so lent (λ e. h (eqb-true bytes (Z .m) (and-left (eqb bytes (Z .m)) (eqb rows (Z .n)) e))))
-  plan-at-most q (table h) = by-lent (clusterRefusal Z leading present b) lent few (not-so lent (λ e. h (eqb-true rows (Z .n) (and-right (eqb bytes (Z .m)) (eqb rows (Z .n)) e))))
+  plan-at-most q (plan h) = by-lent (clusterRefusal Z leading present b) lent early (not-so lent (λ e. h (eqb-true bytes (Z .m) (and-left (eqb bytes (Z .m)) (eqb rows (Z .n)) e))))
+  plan-at-most q (table h) = by-lent (clusterRefusal Z leading present b) lent early (not-so lent (λ e. h (eqb-true rows (Z .n) (and-right (eqb bytes (Z .m)) (eqb rows (Z .n)) e))))
 
-  pub plan-lowest : LowestApplying (PlanRefused Z leading present b bytes rows) (planRefusal Z leading present b bytes rows)
+  pub plan-first : FirstApplying (PlanRefused Z leading present b bytes rows) (planRefusal Z leading present b bytes rows)
   unfolding planRefusal lentRefusal
-  plan-lowest =
-      lowest-of
+  plan-first =
+      first-of
       (lent-shown (PlanRefused Z leading present b bytes rows) (clusterRefusal Z leading present b) lent (λ h. cluster (applies Z leading present b h)) lent-not)
       plan-at-most

@@ -8,6 +8,7 @@ pub mod RuleLaws
 pub mod CongLaws
 pub mod PlanLaws
 pub mod SeenLaws
+pub mod FirstLaws
 pub mod ShapeLaws
 pub mod CallLaws
 pub mod LentLaws

@@ -17,7 +17,7 @@ use Rattle.image.specs.View.{View}
 use Rattle.image.specs.Answers.{value}
 use Rattle.image.proofs.CallLaws.{size-high}
 use Rattle.planner.specs.Setting.{Setting, settingOf, has}
-use Rattle.planner.specs.Rules.{Refused, Waiting, Ready, answer, end, firstWaiting}
+use Rattle.planner.specs.Rules.{Refused, Waiting, Ready, answer, end, firstWaiting, sameFirsts}
 use Rattle.planner.specs.Plan.{viewsIn, planBytes, clusterRefusal, lentRefusal, planRefusal}
 use Rattle.planner.specs.declared.PlanAnswer.{PlanAnswer}
 use Rattle.planner.specs.declared.PlanAnswer.the-variants as plan
@@ -39,10 +39,10 @@ pub answer-ready : (e w : ℕ) → e ≤ w → value (0, e) ≡ answerAt e w
 unfolding answerAt
 answer-ready e w h = rw (le-ltb w e h) refl
 
-answer-found : (S : Setting) (W : ℕ → View) {final waiting : ℕ} → W (S .leader) .readable ≡ true → final ≡ end S W → waiting ≡ firstWaiting S W
+answer-found : (S : Setting) (W : ℕ → View) {final waiting : ℕ} → W (S .leader) .readable ≡ true → sameFirsts S W ≡ true → final ≡ end S W → waiting ≡ firstWaiting S W
     → answerAt final waiting ≡ answerNumbers (answer S W)
 unfolding answerAt answerNumbers answer
-answer-found S W ok f w = rw (ok, f, w) (go (ltb (firstWaiting S W) (end S W)))
+answer-found S W ok one f w = rw (ok, one, f, w) (go (ltb (firstWaiting S W) (end S W)))
   where
     go : (t : Bool) → cond t (value (1, suc (firstWaiting S W))) (value (0, end S W)) ≡ answerNumbers (cond t (Waiting (firstWaiting S W)) (Ready (end S W)))
     go true = refl
@@ -61,22 +61,22 @@ pub left-alone : (refusal : ℕ) (new old : List ℕ) → (refusal ≡ 0 → ⊥
 unfolding unlessRefused
 left-alone refusal new old e = rw (ne-eqb refusal 0 e) refl
 
-module _ (S : Setting) (W : ℕ → View) {n leader readable : ℕ} {lengths conditions epochs : List ℕ} (o : SurveyOf S W n leader readable lengths conditions epochs) where
+module _ (S : Setting) (W : ℕ → View) {n leader readable : ℕ} {firsts lengths conditions epochs : List ℕ} (o : SurveyOf S W n leader readable firsts lengths conditions epochs) where
   pub rows-ask : (n ≤ 7) × ((c : ℕ) → c < n → has readable c ≡ true → getD lengths c 0 ≤ 64)
-  rows-ask = (o .few, lengths-fit n (S .shape .m) readable W lengths conditions epochs (o .surveyed) (λ c b r. o .logs-fit c) (o .slots-fit))
+  rows-ask = (o .few, lengths-fit n (S .shape .m) readable W firsts lengths conditions epochs (o .surveyed) (λ c b r. o .logs-fit c) (o .slots-fit))
 
   pub planned-outcome : {refusal final waiting : ℕ} {bytes : List ℕ} {a : PlanAnswer} {rows : List ReplicaRow} → refusal ≡ 0 → Planned S W bytes final waiting → planNumbers a ≡ answerAt final waiting
       → (length rows ≡ 7) × (take n rows ≡ listed n (numberRow readable lengths epochs)) → Outcome refusal S W a n rows
   unfolding planNumbered rowsOf
   planned-outcome z p e t = record {
     sized = t .0;
-    answer-is = e ∙ answer-found S W (rw (o .leader-is) (o .leader-reads)) (p .end-is) (p .waiting-is) ∙ rw (eq-eqb _ _ z) refl;
+    answer-is = e ∙ answer-found S W (rw (o .leader-is) (o .leader-reads)) (o .same-firsts) (p .end-is) (p .waiting-is) ∙ rw (eq-eqb _ _ z) refl;
     count-is = rw (eq-eqb _ _ z) (sym (o .n-is));
-    rows-are = λ _. rw (o .n-is) (t .1 ∙ rows-are n (S .shape .m) readable W lengths conditions epochs (o .surveyed) (λ c b r. o .logs-fit c));
+    rows-are = λ _. rw (o .n-is) (t .1 ∙ rows-are n (S .shape .m) readable W firsts lengths conditions epochs (o .surveyed) (λ c b r. o .logs-fit c));
   }
 
 -- the plan's bytes are copied from those of 64 slots
-module _ (Z : Shape) (leader present : ℕ) {W : ℕ → View} {l readable : ℕ} {lengths conditions epochs : List ℕ} (o : SurveyOf (settingOf Z leader present) W (Z .n) l readable lengths conditions epochs)
+module _ (Z : Shape) (leader present : ℕ) {W : ℕ → View} {l readable : ℕ} {firsts lengths conditions epochs : List ℕ} (o : SurveyOf (settingOf Z leader present) W (Z .n) l readable firsts lengths conditions epochs)
     {final waiting : ℕ} {bytes : List ℕ} (p : Planned (settingOf Z leader present) W bytes final waiting) where
   pub slots-there : Z .m ≤ length bytes
   unfolding settingOf

@@ -92,26 +92,26 @@ pub survey-end-le : (n leader l readable : ℕ) (conditions epochs : List ℕ) {
 unfolding surveySetting surveyViews
 survey-end-le n leader l readable conditions epochs f = omega (arith, f, end-le (surveySetting n leader) (surveyViews l readable conditions epochs))
 
-same-at : (n m readable l : ℕ) (lengths conditions epochs : List ℕ) (W : ℕ → View) → Surveyed n m W readable lengths conditions epochs
+same-at : (n m readable l : ℕ) (firsts lengths conditions epochs : List ℕ) (W : ℕ → View) → Surveyed n m W readable firsts lengths conditions epochs
     → (k : ℕ) → k < m → SameAt n (surveyViews l readable conditions epochs) W k
 unfolding surveyViews
-same-at n m readable l lengths conditions epochs W s k h = record {
+same-at n m readable l firsts lengths conditions epochs W s k h = record {
   readables = s .readable-is;
   conditions = λ c b r. rw (s .condition-is c k b h r) (number-from (W c .condition k));
   epochs = λ c b r. s .epoch-is c k b h r;
 }
 
-module _ (n leader readable : ℕ) (lengths conditions epochs : List ℕ) (S : Setting) (W : ℕ → View) (o : SurveyOf S W n leader readable lengths conditions epochs) (lead : leader < n)
+module _ (n leader readable : ℕ) (firsts lengths conditions epochs : List ℕ) (S : Setting) (W : ℕ → View) (o : SurveyOf S W n leader readable firsts lengths conditions epochs) (lead : leader < n)
     (l : ℕ) (le : l ≡ getD lengths leader 0) where
   log-is : l ≡ W (S .leader) .length
   log-is = le ∙ rw (o .leader-is) (o .surveyed .length-is leader lead (o .leader-reads))
 
-pub plan-of : (n leader l readable : ℕ) (lengths conditions epochs kept : List ℕ) {bytes : List ℕ} {final waiting : ℕ} → l ≡ getD lengths leader 0 → l ≤ 64 → leader < n
+pub plan-of : (n leader l readable : ℕ) (lengths conditions epochs kept : List ℕ) {firsts bytes : List ℕ} {final waiting : ℕ} → l ≡ getD lengths leader 0 → l ≤ 64 → leader < n
     → final ≡ end (surveySetting n leader) (surveyViews l readable conditions epochs) → Walked (surveySetting n leader) (surveyViews l readable conditions epochs) kept final
     → bytes ≡ listed 64 (markedByte kept final l) → waiting ≡ lowest (λ k. eqb (getD bytes k 0) 3) final
-    → (S : Setting) (W : ℕ → View) → SurveyOf S W n leader readable lengths conditions epochs → Planned S W bytes final waiting
+    → (S : Setting) (W : ℕ → View) → SurveyOf S W n leader readable firsts lengths conditions epochs → Planned S W bytes final waiting
 unfolding surveySetting surveyViews planBytes
-plan-of n leader l readable lengths conditions epochs kept {bytes} {final} {waiting} le fits lead f w b q S W o = record {
+plan-of n leader l readable lengths conditions epochs kept {firsts} {bytes} {final} {waiting} le fits lead f w b q S W o = record {
   sized = ap length are ∙ length-listed 64 (planByte T U);
   bytes-are = rw are (take-listed 64 (S .shape .m) (planByte T U) (o .slots-fit) ∙ listed-cong (S .shape .m) (planByte T U) (planByte S W) (λ k h. byte-cong T S U W en el lead′ ok len same k));
   end-is = f ∙ end-cong T S U W en el lead′ ok len same;
@@ -137,13 +137,13 @@ plan-of n leader l readable lengths conditions epochs kept {bytes} {final} {wait
     ok = rw (o .leader-is) (o .leader-reads)
 
     len : l ≡ W (S .leader) .length
-    len = log-is n leader readable lengths conditions epochs S W o lead l le
+    len = log-is n leader readable firsts lengths conditions epochs S W o lead l le
 
     log-fits : W (S .leader) .length ≤ S .shape .m
     log-fits = o .logs-fit (S .leader)
 
     same : (k : ℕ) → k < W (S .leader) .length → SameAt (S .shape .n) U W k
-    same k h = rw (o .n-is) (same-at n (S .shape .m) readable l lengths conditions epochs W (o .surveyed) k (omega (arith, log-fits)))
+    same k h = rw (o .n-is) (same-at n (S .shape .m) readable l firsts lengths conditions epochs W (o .surveyed) k (omega (arith, log-fits)))
 
     are : bytes ≡ listed 64 (planByte T U)
     are = b ∙ listed-cong 64 (markedByte kept final l) (planByte T U) (λ k h. marked-is T U kept final f w k)

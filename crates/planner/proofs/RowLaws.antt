@@ -43,7 +43,7 @@ rows-all f rows n c h g e = let q : n ≡ c = omega arith in rw q e
 
 -- ---- the rows of a survey are those of its views
 
-module _ (n m readable : ℕ) (W : ℕ → View) (lengths conditions epochs : List ℕ) (s : Surveyed n m W readable lengths conditions epochs)
+module _ (n m readable : ℕ) (W : ℕ → View) (firsts lengths conditions epochs : List ℕ) (s : Surveyed n m W readable firsts lengths conditions epochs)
     (fits : (c : ℕ) → c < n → W c .readable ≡ true → W c .length ≤ m) where
   pub lengths-fit : m ≤ 64 → (c : ℕ) → c < n → has readable c ≡ true → getD lengths c 0 ≤ 64
   lengths-fit h c b r =

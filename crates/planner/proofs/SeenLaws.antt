@@ -73,42 +73,49 @@ copied-all k p h = record { same-size = p .same-size; here = λ j l. p .here j (
 
 -- ---- the replicas below c are surveyed
 
-pub record Partly (m : ℕ) (W : ℕ → View) (readable : ℕ) (lengths conditions epochs : List ℕ) (c : ℕ) : Type 0 where
+pub record Partly (m : ℕ) (W : ℕ → View) (readable : ℕ) (firsts lengths conditions epochs : List ℕ) (c : ℕ) : Type 0 where
+  pub firsts-sized : length firsts ≡ 7
   pub lengths-sized : length lengths ≡ 7
   pub conditions-sized : length conditions ≡ 448
   pub epochs-sized : length epochs ≡ 448
   pub set-is : readable ≡ setOf (λ d. W d .readable) c
+  pub first-is : (d : ℕ) → d < c → W d .readable ≡ true → getD firsts d 0 ≡ W d .first
   pub length-is : (d : ℕ) → d < c → W d .readable ≡ true → getD lengths d 0 ≡ W d .length
   pub condition-is : (d k : ℕ) → d < c → k < m → W d .readable ≡ true → getD conditions (d * 64 + k) 0 ≡ conditionNumber (W d .condition k)
   pub epoch-is : (d k : ℕ) → d < c → k < m → W d .readable ≡ true → getD epochs (d * 64 + k) 0 ≡ W d .epoch k
 
-pub partly-none : (m : ℕ) (W : ℕ → View) (lengths conditions epochs : List ℕ) → length lengths ≡ 7 → length conditions ≡ 448 → length epochs ≡ 448 → Partly m W 0 lengths conditions epochs 0
-partly-none m W lengths conditions epochs a b e = record {
+pub partly-none : (m : ℕ) (W : ℕ → View) (firsts lengths conditions epochs : List ℕ) → length firsts ≡ 7 → length lengths ≡ 7 → length conditions ≡ 448 → length epochs ≡ 448 → Partly m W 0 firsts lengths conditions epochs 0
+partly-none m W firsts lengths conditions epochs f a b e = record {
+  firsts-sized = f;
   lengths-sized = a;
   conditions-sized = b;
   epochs-sized = e;
   set-is = set-none (λ d. W d .readable);
+  first-is = λ d h. absurd (omega arith);
   length-is = λ d h. absurd (omega arith);
   condition-is = λ d k h. absurd (omega arith);
   epoch-is = λ d k h. absurd (omega arith);
 }
 
-pub partly-all : {m : ℕ} {W : ℕ → View} {readable : ℕ} {lengths conditions epochs : List ℕ} (n c : ℕ) → Partly m W readable lengths conditions epochs c → c ≤ n → n ≤ c
-    → Surveyed n m W readable lengths conditions epochs
+pub partly-all : {m : ℕ} {W : ℕ → View} {readable : ℕ} {firsts lengths conditions epochs : List ℕ} (n c : ℕ) → Partly m W readable firsts lengths conditions epochs c → c ≤ n → n ≤ c
+    → Surveyed n m W readable firsts lengths conditions epochs
 partly-all {m} {W} n c p h g = record {
   readable-is = λ d l. rw (p .set-is) (has-set (λ e. W e .readable) c d (omega arith));
+  first-is = λ d l. p .first-is d (omega arith);
   length-is = λ d l. p .length-is d (omega arith);
   condition-is = λ d k l. p .condition-is d k (omega arith);
   epoch-is = λ d k l. p .epoch-is d k (omega arith);
 }
 
-pub partly-skip : {m : ℕ} {W : ℕ → View} {readable : ℕ} {lengths conditions epochs : List ℕ} (c : ℕ) → Partly m W readable lengths conditions epochs c → W c .readable ≡ false
-    → Partly m W readable lengths conditions epochs (c + 1)
-partly-skip {m} {W} {readable} {lengths} {conditions} {epochs} c p off = record {
+pub partly-skip : {m : ℕ} {W : ℕ → View} {readable : ℕ} {firsts lengths conditions epochs : List ℕ} (c : ℕ) → Partly m W readable firsts lengths conditions epochs c → W c .readable ≡ false
+    → Partly m W readable firsts lengths conditions epochs (c + 1)
+partly-skip {m} {W} {readable} {firsts} {lengths} {conditions} {epochs} c p off = record {
+  firsts-sized = p .firsts-sized;
   lengths-sized = p .lengths-sized;
   conditions-sized = p .conditions-sized;
   epochs-sized = p .epochs-sized;
   set-is = set-out (λ d. W d .readable) c (p .set-is) off;
+  first-is = λ d h r. p .first-is d (below d h r) r;
   length-is = λ d h r. p .length-is d (below d h r) r;
   condition-is = λ d k h l r. p .condition-is d k (below d h r) l r;
   epoch-is = λ d k h l r. p .epoch-is d k (below d h r) l r;
@@ -121,21 +128,27 @@ partly-skip {m} {W} {readable} {lengths} {conditions} {epochs} c p off = record 
         go (yes q) = absurd (clash (rw q at r) off)
         go (no q) = omega arith
 
-pub partly-more : {m : ℕ} {W : ℕ → View} {readable : ℕ} {lengths conditions epochs seen-conditions seen-epochs conditions′ epochs′ : List ℕ} (c len : ℕ)
-    → Partly m W readable lengths conditions epochs c → c < 7 → m ≤ 64 → W c .readable ≡ true → len ≡ W c .length
+pub partly-more : {m : ℕ} {W : ℕ → View} {readable : ℕ} {firsts lengths conditions epochs seen-conditions seen-epochs conditions′ epochs′ : List ℕ} (c first len : ℕ)
+    → Partly m W readable firsts lengths conditions epochs c → c < 7 → m ≤ 64 → W c .readable ≡ true → first ≡ W c .first → len ≡ W c .length
     → ((k : ℕ) → k < m → getD seen-conditions k 0 ≡ conditionNumber (W c .condition k)) → ((k : ℕ) → k < m → getD seen-epochs k 0 ≡ W c .epoch k)
     → Copied c conditions seen-conditions conditions′ 64 → Copied c epochs seen-epochs epochs′ 64
-    → Partly m W (inserted readable c) (set lengths c len) conditions′ epochs′ (c + 1)
-partly-more {m} {W} {readable} {lengths} {conditions} {epochs} {seen-conditions} {seen-epochs} {conditions′} {epochs′} c len p c7 m64 on le ce ee cc′ ec′ = record {
+    → Partly m W (inserted readable c) (set firsts c first) (set lengths c len) conditions′ epochs′ (c + 1)
+partly-more {m} {W} {readable} {firsts} {lengths} {conditions} {epochs} {seen-conditions} {seen-epochs} {conditions′} {epochs′} c first len p c7 m64 on fe le ce ee cc′ ec′ = record {
+  firsts-sized = length-set firsts c first ∙ p .firsts-sized;
   lengths-sized = length-set lengths c len ∙ p .lengths-sized;
   conditions-sized = cc′ .same-size ∙ p .conditions-sized;
   epochs-sized = ec′ .same-size ∙ p .epochs-sized;
   set-is = set-in (λ d. W d .readable) c (p .set-is) on;
+  first-is = λ d h r. at-first d r h (ℕ-discrete d c);
   length-is = λ d h r. at-length d r h (ℕ-discrete d c);
   condition-is = λ d k h l r. at-condition d k l r h (ℕ-discrete d c);
   epoch-is = λ d k h l r. at-epoch d k l r h (ℕ-discrete d c);
 }
   where
+    at-first : (d : ℕ) → W d .readable ≡ true → d < c + 1 → Dec (d ≡ c) → getD (set firsts c first) d 0 ≡ W d .first
+    at-first d r h (yes q) = rw q (getD-set-same firsts c first 0 (omega (arith, p .firsts-sized)) ∙ fe)
+    at-first d r h (no q) = getD-set-other firsts c d first 0 q ∙ p .first-is d (omega arith) r
+
     at-length : (d : ℕ) → W d .readable ≡ true → d < c + 1 → Dec (d ≡ c) → getD (set lengths c len) d 0 ≡ W d .length
     at-length d r h (yes q) = rw q (getD-set-same lengths c len 0 (omega (arith, p .lengths-sized)) ∙ le)
     at-length d r h (no q) = getD-set-other lengths c d len 0 q ∙ p .length-is d (omega arith) r
@@ -159,19 +172,19 @@ module _ (Z : Shape) (present : ℕ) (b : Bytes) (c : ℕ) where
   unfolding viewsIn viewsOf viewOf settingOf
   refused-off e = rw (ne-eqb (imageRefusal (Z .m) (decode Z b c)) 0 e) (and-off (has present c))
 
-  pub seen-more : {readable r first len : ℕ} {lengths conditions epochs seen-conditions seen-epochs conditions′ epochs′ : List ℕ}
-      → Partly (Z .m) (viewsIn (settingOf Z 0 present) b) readable lengths conditions epochs c → c < 7 → Z .m ≤ 64 → has present c ≡ true → imageRefusal (Z .m) (decode Z b c) ≡ 0
+  pub seen-more : {readable r first len : ℕ} {firsts lengths conditions epochs seen-conditions seen-epochs conditions′ epochs′ : List ℕ}
+      → Partly (Z .m) (viewsIn (settingOf Z 0 present) b) readable firsts lengths conditions epochs c → c < 7 → Z .m ≤ 64 → has present c ≡ true → imageRefusal (Z .m) (decode Z b c) ≡ 0
       → Seen (Z .m) (decode Z b c) first len seen-conditions seen-epochs → Copied c conditions seen-conditions conditions′ 64 → Copied c epochs seen-epochs epochs′ 64 → r ≡ inserted readable c
-      → Partly (Z .m) (viewsIn (settingOf Z 0 present) b) r (set lengths c len) conditions′ epochs′ (c + 1)
+      → Partly (Z .m) (viewsIn (settingOf Z 0 present) b) r (set firsts c first) (set lengths c len) conditions′ epochs′ (c + 1)
   unfolding viewsIn viewsOf viewOf settingOf conditionsOf
-  seen-more {readable} {r} {first} {len} {lengths} {conditions} {epochs} {seen-conditions} {seen-epochs} p c7 m64 on ok s x y q =
-      rw q (partly-more c len p c7 m64 (rw (on, eq-eqb _ _ ok) refl) (s .length-is)
+  seen-more {readable} {r} {first} {len} {firsts} {lengths} {conditions} {epochs} {seen-conditions} {seen-epochs} p c7 m64 on ok s x y q =
+      rw q (partly-more c first len p c7 m64 (rw (on, eq-eqb _ _ ok) refl) (s .first-is) (s .length-is)
       (taken-at (Z .m) (λ k. conditionNumber (conditionAt (decode Z b c) k)) seen-conditions (s .conditions-are))
       (taken-at (Z .m) (epochAt (decode Z b c)) seen-epochs (s .epochs-are)) x y)
 
 -- the leader makes no difference
-pub surveyed-any : (Z : Shape) (present : ℕ) (b : Bytes) {readable : ℕ} {lengths conditions epochs : List ℕ}
-    → Surveyed (Z .n) (Z .m) (viewsIn (settingOf Z 0 present) b) readable lengths conditions epochs → (leader : ℕ)
-    → Surveyed (Z .n) (Z .m) (viewsIn (settingOf Z leader present) b) readable lengths conditions epochs
+pub surveyed-any : (Z : Shape) (present : ℕ) (b : Bytes) {readable : ℕ} {firsts lengths conditions epochs : List ℕ}
+    → Surveyed (Z .n) (Z .m) (viewsIn (settingOf Z 0 present) b) readable firsts lengths conditions epochs → (leader : ℕ)
+    → Surveyed (Z .n) (Z .m) (viewsIn (settingOf Z leader present) b) readable firsts lengths conditions epochs
 unfolding viewsIn viewsOf settingOf
 surveyed-any Z present b s leader = s

@@ -1,15 +1,16 @@
 -- Refusals 1, 2, 3 and 11: the numbers, the set and the cluster's length.
 use Prim.Native.Nat.{ℕ, _+_, _*_, _/_, _^_, _≤_}
 use mathlib.Core.Path.{_≡_, refl, sym, _∙_}
-use mathlib.Core.Bool.{Bool, true, false}
+use mathlib.Core.Bool.{Bool, true, false, _&&_}
 use native.Mathlib.Omega.{arith}
 use native.Mathlib.Nat.{mul-le-mul, div-eq-of-lt, div-lt-iff-lt-mul, one-mul}
 use lib.Pow.{pow-pos}
 use lib.Dec.{eqb, ltb}
 use borrow.Author.Tests.{ltb-true, lt-ltb, eq-eqb, ne-eqb, eqb-true, not-false}
+use Rattle.slices.proofs.SameLaws.{and-left, and-right, and-off}
 use Rattle.record.specs.declared.Shape.{Shape}
 use Rattle.image.specs.Refusal.{refuse, _else_}
-use Rattle.image.specs.View.{isSize, isSlots}
+use Rattle.image.specs.View.{isSize, isSlots, isEdition}
 use Rattle.image.specs.Image.{imageSize}
 use Rattle.image.specs.Cluster.{imageAt}
 use Rattle.image.proofs.RefusalLaws.{refuse-zero, else-zero-l, else-zero-r}
@@ -17,8 +18,8 @@ use Rattle.planner.specs.Plan.{shapeRefusal}
 use Rattle.image.proofs.DecodeLaws.{size-few}
 use Rattle.image.proofs.ClusterLaws.{image-at}
 
-pub cluster-fits : (Z : Shape) → Z .n ≤ 7 → Z .m ≤ 64 → imageAt Z (Z .n) ≤ 122948
-cluster-fits Z h g = omega (arith, image-at Z (Z .n), mul-le-mul {n₁ = imageSize Z 1} {m₁ = Z .n} {n₂ = 17564} {m₂ = 7} (size-few Z 1 g) h)
+pub cluster-fits : (Z : Shape) → Z .n ≤ 7 → Z .m ≤ 64 → imageAt Z (Z .n) ≤ 123025
+cluster-fits Z h g = omega (arith, image-at Z (Z .n), mul-le-mul {n₁ = imageSize Z 1} {m₁ = Z .n} {n₂ = 17575} {m₂ = 7} (size-few Z 1 g) h)
 
 shifted : (n present : ℕ) → (present / 2 ^ n ≡ 0 → ⊥) → ltb present (2 ^ n) ≡ false
 shifted n present e = go (ltb present (2 ^ n)) refl
@@ -41,10 +42,14 @@ module _ (Z : Shape) (present size : ℕ) where
     unfolding shapeRefusal refuse _else_
     shape-size e = rw (s, e) refl
 
-    module _ (z : isSize (Z .n) ≡ true) {all : ℕ} (a : all ≡ imageAt Z (Z .n)) where
+    pub shape-edition : isEdition (Z .edition) ≡ false → 2 ≡ shapeRefusal Z present size
+    unfolding shapeRefusal refuse _else_
+    shape-edition e = rw (s, e, and-off (isSize (Z .n))) refl
+
+    module _ (z : isSize (Z .n) ≡ true) (d : isEdition (Z .edition) ≡ true) {all : ℕ} (a : all ≡ imageAt Z (Z .n)) where
       pub shape-bytes : (size ≡ all → ⊥) → 3 ≡ shapeRefusal Z present size
       unfolding shapeRefusal refuse _else_
-      shape-bytes e = rw (s, z, ne-eqb size (imageAt Z (Z .n)) (λ q. e (q ∙ sym a))) refl
+      shape-bytes e = rw (s, z, d, ne-eqb size (imageAt Z (Z .n)) (λ q. e (q ∙ sym a))) refl
 
       module _ (b : size ≡ all) where
         sized : eqb size (imageAt Z (Z .n)) ≡ true
@@ -52,20 +57,26 @@ module _ (Z : Shape) (present size : ℕ) where
 
         pub shape-set : (present / 2 ^ Z .n ≡ 0 → ⊥) → 11 ≡ shapeRefusal Z present size
         unfolding shapeRefusal refuse _else_
-        shape-set e = rw (s, z, sized, shifted (Z .n) present e) refl
+        shape-set e = rw (s, z, d, sized, shifted (Z .n) present e) refl
 
         pub shape-none : present / 2 ^ Z .n ≡ 0 → 0 ≡ shapeRefusal Z present size
         unfolding shapeRefusal refuse _else_
-        shape-none e = rw (s, z, sized, unshifted (Z .n) present e) refl
+        shape-none e = rw (s, z, d, sized, unshifted (Z .n) present e) refl
 
   module _ (r : shapeRefusal Z present size ≡ 0) where
     pub shaped-slots : isSlots (Z .m) ≡ true
     unfolding shapeRefusal
     shaped-slots = not-false _ (refuse-zero 0 _ (else-zero-l _ _ r))
 
-    pub shaped-size : isSize (Z .n) ≡ true
+    named-both : (isSize (Z .n) && isEdition (Z .edition)) ≡ true
     unfolding shapeRefusal
-    shaped-size = not-false _ (refuse-zero 1 _ (else-zero-l _ _ (else-zero-r _ _ r)))
+    named-both = not-false _ (refuse-zero 1 _ (else-zero-l _ _ (else-zero-r _ _ r)))
+
+    pub shaped-size : isSize (Z .n) ≡ true
+    shaped-size = and-left (isSize (Z .n)) (isEdition (Z .edition)) named-both
+
+    pub shaped-edition : isEdition (Z .edition) ≡ true
+    shaped-edition = and-right (isSize (Z .n)) (isEdition (Z .edition)) named-both
 
     pub shaped-bytes : size ≡ imageAt Z (Z .n)
     unfolding shapeRefusal

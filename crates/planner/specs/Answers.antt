@@ -23,7 +23,7 @@ planNumbers (plan.Ready l) = value (0, l)
 planNumbers (plan.Waiting k) = value (1, k)
 planNumbers (plan.Refused r) = refused r
 
--- the same of what the rules answer, whose slots count from 0
+-- the same of what the rules answer, whose slots count from 0. `Refused` is a call that is refused, by its own number
 unfoldable pub answerNumbers : Answer → Numbered (ℕ × ℕ)
 answerNumbers Refused = refused 12
 answerNumbers (Waiting k) = value (1, suc k)

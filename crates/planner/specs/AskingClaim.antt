@@ -8,12 +8,12 @@ use Rattle.search.specs.Search.{oneIf, count}
 use Rattle.slices.specs.Parts.{Bytes}
 use Rattle.record.specs.declared.Shape.{Shape}
 use Rattle.image.specs.Image.{Image}
-use Rattle.image.specs.View.{View, isSize, isSlots, isLost, conditionAt, imageRefusal, readRefusal}
+use Rattle.image.specs.View.{View, isSize, isSlots, isEdition, isLost, conditionAt, imageRefusal, readRefusal}
 use Rattle.image.specs.Verdict.{verdictAt}
 use Rattle.image.specs.Read.{isWhole}
-use Rattle.image.specs.Cluster.{imageAt, imagePart}
+use Rattle.image.specs.Cluster.{imageAt, imagePart, firstAt}
 use Rattle.planner.specs.Setting.{Setting, has, settingOf}
-use Rattle.planner.specs.Rules.{majority, mayTruncate, isFaulty, isUsed, answers, have, haveFaulty, dontHave}
+use Rattle.planner.specs.Rules.{majority, mayTruncate, isFaulty, isUsed, answers, have, haveFaulty, dontHave, sameFirsts}
 use Rattle.planner.specs.Plan.{viewsIn}
 
 pub record AskingClaim : Type 0 where
@@ -24,8 +24,13 @@ pub record AskingClaim : Type 0 where
   pub used : (m : ℕ) (i : Image) (k : ℕ) → imageRefusal m i ≡ 0 → k < m
       → isUsed (conditionAt i k) ≡ (leb 1 (verdictAt m i k) && leb (verdictAt m i k) 4 || eqb (verdictAt m i k) 6)
   -- a present replica whose own image is refused (1 to 7) is unreadable
-  pub readable : (Z : Shape) (leader present : ℕ) (b : Bytes) (c : ℕ) → isSize (Z .n) ≡ true → isSlots (Z .m) ≡ true → length b ≡ imageAt Z (Z .n) → c < Z .n
+  pub readable : (Z : Shape) (leader present : ℕ) (b : Bytes) (c : ℕ) → isSize (Z .n) ≡ true → isEdition (Z .edition) ≡ true → isSlots (Z .m) ≡ true
+      → length b ≡ imageAt Z (Z .n) → c < Z .n
       → viewsIn (settingOf Z leader present) b c .readable ≡ has present c && eqb (readRefusal Z (suc c) (imagePart Z b c)) 0
+  -- a log begins where its own header says, in edition 1 at index 1; and there all begin at one index
+  pub first : (S : Setting) (b : Bytes) (c : ℕ) → viewsIn S b c .first ≡ firstAt (S .shape) b c
+  pub first-one : (S : Setting) (b : Bytes) (c : ℕ) → S .shape .edition ≡ 1 → viewsIn S b c .first ≡ 1
+  pub same-one : (S : Setting) (b : Bytes) → S .shape .edition ≡ 1 → sameFirsts S (viewsIn S b) ≡ true
   -- a replica that is asked gives exactly one of the three answers, and no other replica gives one
   pub one-answer : (S : Setting) (W : ℕ → View) (k c : ℕ) → isLost (W c .condition k) ≡ false
       → oneIf (have S W k c) + oneIf (haveFaulty S W k c) + oneIf (dontHave S W k c) ≡ oneIf (answers S W c)

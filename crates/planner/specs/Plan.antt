@@ -7,10 +7,10 @@ use Rattle.search.specs.Search.{listed}
 use Rattle.slices.specs.Parts.{Bytes}
 use Rattle.record.specs.declared.Shape.{Shape}
 use Rattle.image.specs.Refusal.{refuse, _else_}
-use Rattle.image.specs.View.{Condition, conditionNumber, View, isSize, isReplica, isSlots}
+use Rattle.image.specs.View.{Condition, conditionNumber, View, isSize, isReplica, isSlots, isEdition}
 use Rattle.image.specs.Cluster.{decode, imageAt}
 use Rattle.planner.specs.Setting.{Setting, settingOf, viewsOf}
-use Rattle.planner.specs.Rules.{Rule, Keep, Fetch, Truncate, Wait, rule, donor, end}
+use Rattle.planner.specs.Rules.{Rule, Keep, Fetch, Truncate, Wait, rule, donor, end, sameFirsts}
 
 -- what is seen of the cluster in a buffer
 unfoldable pub viewsIn : Setting → Bytes → ℕ → View
@@ -20,15 +20,16 @@ viewsIn S b = viewsOf S (decode (S .shape) b)
 unfoldable pub shapeRefusal : Shape → ℕ → ℕ → ℕ
 shapeRefusal Z present size =
     refuse 1 (not (isSlots (Z .m)))
-    else refuse 2 (not (isSize (Z .n)))
+    else refuse 2 (not (isSize (Z .n) && isEdition (Z .edition)))
     else refuse 3 (not (eqb size (imageAt Z (Z .n))))
     else refuse 11 (not (ltb present (2 ^ Z .n)))
 
--- these, and 12: the refusals of planning, step and run
+-- these, then 12, then 21: the refusals of planning, step and run, in the order in which they are tried
 unfoldable pub clusterRefusal : Shape → ℕ → ℕ → Bytes → ℕ
 clusterRefusal Z leading present b =
     shapeRefusal Z present (length b)
     else refuse 12 (not (isReplica (Z .n) leading && viewsIn (settingOf Z leading present) b (pred leading) .readable))
+    else refuse 21 (not (sameFirsts (settingOf Z leading present) (viewsIn (settingOf Z leading present) b)))
 
 -- 13, after all else that applies: the plan has not m bytes, or the table not n rows
 unfoldable pub lentRefusal : ℕ → Shape → ℕ → ℕ → ℕ

@@ -1,8 +1,8 @@
 -- Document 01, "Asking the fleet": answers, rules and the end of the log, as functions of the views W of the replicas.
 use Prim.Native.Nat.{ℕ, _+_, _-_, _/_}
-use mathlib.Core.Bool.{Bool, true, false, cond, not, _&&_}
+use mathlib.Core.Bool.{Bool, true, false, cond, not, _&&_, _||_}
 use lib.Dec.{eqb, ltb}
-use Rattle.search.specs.Search.{lowest, count}
+use Rattle.search.specs.Search.{lowest, count, all}
 use Rattle.image.specs.View.{Condition, conditionNumber, View}
 use Rattle.image.specs.Read.{isWhole}
 use Rattle.planner.specs.Setting.{Setting}
@@ -87,7 +87,11 @@ module _ (S : Setting) (W : ℕ → View) where
   unfoldable pub firstWaiting : ℕ
   firstWaiting = lowest (λ k. isWait (rule k)) end
 
--- refused by 12, waiting with the lowest waiting slot, or ready with the final length
+-- every readable present replica's log begins at the leader's first index (02, Six)
+unfoldable pub sameFirsts : Setting → (ℕ → View) → Bool
+sameFirsts S W = all (λ c. not (W c .readable) || eqb (W c .first) (W (S .leader) .first)) (S .shape .n)
+
+-- refused by 12 or 21, waiting with the lowest waiting slot, or ready with the final length
 pub data Answer : Type 0 where
   Refused : Answer
   Waiting : ℕ → Answer
@@ -95,6 +99,6 @@ pub data Answer : Type 0 where
 
 unfoldable pub answer : Setting → (ℕ → View) → Answer
 answer S W =
-    cond (W (S .leader) .readable)
+    cond (W (S .leader) .readable && sameFirsts S W)
     (cond (ltb (firstWaiting S W) (end S W)) (Waiting (firstWaiting S W)) (Ready (end S W)))
     Refused

@@ -1,23 +1,25 @@
 -- For proofs only. A survey: what is seen of each replica, in numbers. Slot k of replica c stands at c * 64 + k.
 use Prim.Native.Nat.{ℕ, zero, suc, _+_, _*_, _<_, _≤_}
 use mathlib.Core.Path.{_≡_}
-use mathlib.Core.Bool.{Bool, true, false, cond, not, _&&_}
+use mathlib.Core.Bool.{Bool, true, false, cond, not, _&&_, _||_}
 use mathlib.Core.List.{List}
 use lib.Dec.{eqb, ltb}
 use lib.ListN.{length, getD, take}
+use Rattle.search.specs.Search.{all}
 use Rattle.record.specs.declared.Shape.{Shape}
 use Rattle.image.specs.View.{Condition, Unused, Whole, RecordLost, Faulty, Lost, View}
 use Rattle.image.specs.View.{conditionNumber}
 use Rattle.slices.specs.Parts.{Bytes}
 use Rattle.planner.specs.Setting.{Setting, settingOf, has}
-use Rattle.planner.specs.Rules.{rule, donor, isTruncate, end, firstWaiting}
+use Rattle.planner.specs.Rules.{rule, donor, isTruncate, end, firstWaiting, sameFirsts}
 use Rattle.planner.specs.Plan.{viewsIn, ruleByte, planBytes}
 use Rattle.planner.specs.declared.Survey.{Survey}
 use Rattle.planner.specs.declared.Plan.{Plan}
 
 -- the numbers of the readable replicas below n are those of the views W, in m slots
-pub record Surveyed (n m : ℕ) (W : ℕ → View) (readable : ℕ) (lengths conditions epochs : List ℕ) : Type 0 where
+pub record Surveyed (n m : ℕ) (W : ℕ → View) (readable : ℕ) (firsts lengths conditions epochs : List ℕ) : Type 0 where
   pub readable-is : (c : ℕ) → c < n → has readable c ≡ W c .readable
+  pub first-is : (c : ℕ) → c < n → W c .readable ≡ true → getD firsts c 0 ≡ W c .first
   pub length-is : (c : ℕ) → c < n → W c .readable ≡ true → getD lengths c 0 ≡ W c .length
   pub condition-is : (c k : ℕ) → c < n → k < m → W c .readable ≡ true → getD conditions (c * 64 + k) 0 ≡ conditionNumber (W c .condition k)
   pub epoch-is : (c k : ℕ) → c < n → k < m → W c .readable ≡ true → getD epochs (c * 64 + k) 0 ≡ W c .epoch k
@@ -36,14 +38,19 @@ conditionFrom (suc (suc zero)) = RecordLost
 conditionFrom (suc (suc (suc zero))) = Faulty
 conditionFrom (suc (suc (suc (suc x)))) = Lost
 
+-- every readable replica below n has the leader's first index
+unfoldable pub sameNumbers : ℕ → ℕ → ℕ → List ℕ → Bool
+sameNumbers n leader readable firsts = all (λ c. not (has readable c) || eqb (getD firsts c 0) (getD firsts leader 0)) n
+
 -- n replicas and their leader, from 0
 unfoldable pub surveySetting : ℕ → ℕ → Setting
-surveySetting n leader = record { shape = record { n = n; m = 64 }; leader = leader; present = λ c. true }
+surveySetting n leader = record { shape = record { n = n; m = 64; edition = 1 }; leader = leader; present = λ c. true }
 
--- what a survey's numbers say, where the leader's log is so long
+-- what a survey's numbers say, where the leader's log is so long. The rules of a slot look at no first index: any will do
 unfoldable pub surveyViews : ℕ → ℕ → List ℕ → List ℕ → ℕ → View
 surveyViews l readable conditions epochs c = record {
   readable = has readable c;
+  first = 1;
   length = l;
   condition = λ k. conditionFrom (getD conditions (c * 64 + k) 0);
   epoch = λ k. getD epochs (c * 64 + k) 0;
@@ -69,16 +76,17 @@ pub record Walked (S : Setting) (W : ℕ → View) (bytes : List ℕ) (k : ℕ) 
 unfoldable pub markedByte : List ℕ → ℕ → ℕ → ℕ → ℕ
 markedByte bytes e l k = cond (ltb k e) (getD bytes k 0) (cond (ltb k l) (cond (eqb k e) 4 5) (getD bytes k 0))
 
--- a survey is that of the views W, in which the leader is readable
-pub record SurveyOf (S : Setting) (W : ℕ → View) (n leader readable : ℕ) (lengths conditions epochs : List ℕ) : Type 0 where
+-- a survey is that of the views W, in which the leader is readable and all that are readable have its first index
+pub record SurveyOf (S : Setting) (W : ℕ → View) (n leader readable : ℕ) (firsts lengths conditions epochs : List ℕ) : Type 0 where
   pub n-is : S .shape .n ≡ n
   pub leader-is : S .leader ≡ leader
   pub few : n ≤ 7
   pub leader-below : leader < n
   pub slots-fit : S .shape .m ≤ 64
   pub leader-reads : W leader .readable ≡ true
+  pub same-firsts : sameFirsts S W ≡ true
   pub logs-fit : (c : ℕ) → W c .length ≤ S .shape .m
-  pub surveyed : Surveyed n (S .shape .m) W readable lengths conditions epochs
+  pub surveyed : Surveyed n (S .shape .m) W readable firsts lengths conditions epochs
 
 -- the plan of the views W
 pub record Planned (S : Setting) (W : ℕ → View) (bytes : List ℕ) (final waiting : ℕ) : Type 0 where
@@ -89,7 +97,7 @@ pub record Planned (S : Setting) (W : ℕ → View) (bytes : List ℕ) (final wa
 
 -- the same of the code's structs
 abbrev pub SurveyIs : Setting → (ℕ → View) → ℕ → ℕ → Survey → Type 0
-SurveyIs S W n leader s = SurveyOf S W n leader (s .readable) (s .lengths) (s .conditions) (s .epochs)
+SurveyIs S W n leader s = SurveyOf S W n leader (s .readable) (s .firsts) (s .lengths) (s .conditions) (s .epochs)
 
 abbrev pub PlanIs : Setting → (ℕ → View) → Plan → Type 0
 PlanIs S W p = Planned S W (p .bytes) (p .end) (p .waiting)

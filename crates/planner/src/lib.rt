@@ -25,10 +25,11 @@ pub struct ReplicaRow {
 // A survey has room for 64 slots of each of 7 replicas.
 pub const SURVEY_SLOTS: usize = 448;
 
-// The readable set; and for each readable replica the length of its log, and the condition's number and the epoch of each
-// slot. Slot k of replica c stands at c * MAX_SLOTS + k.
+// The readable set; and for each readable replica the index of its first slot, the length of its log, and the condition's number and the
+// epoch of each slot. Slot k of replica c stands at c * MAX_SLOTS + k.
 pub struct Survey {
     pub readable: u32,
+    pub firsts: [u32; MAX_REPLICAS],
     pub lengths: [usize; MAX_REPLICAS],
     pub conditions: [u8; SURVEY_SLOTS],
     pub epochs: [u32; SURVEY_SLOTS],
@@ -46,7 +47,8 @@ pub fn asking_claim()
     ensures { λ _. ⌜ AskingClaim ⌝ }
 {}
 
-// Each refusal of a call about a cluster has document 01's condition and no other, and the lowest that applies is answered.
+// Each refusal of a call about a cluster has the condition that documents 01 and 02 give it and no other, and the first that applies, in the
+// order in which they are tried, is answered.
 pub fn cluster_refusal_claim()
     ensures { λ _. ⌜ ClusterRefusalClaim ⌝ }
 {}

@@ -20,6 +20,7 @@ use compose::REFUSED_SIZE;
 use decide::Opening;
 use decide::open_cluster;
 use image::MAX_SLOTS;
+use locate::OLD_EDITION;
 use planner::SURVEY_SLOTS;
 use record::Shape;
 use report::Command;
@@ -123,7 +124,7 @@ fn report_cluster(cluster: &[u8], shape: Shape, leading: usize, present: u32) ->
     report_plan(shape.n, leading, opening)
 }
 
-// All that is printed for an input.
+// All that is printed for an input. Its cluster is of edition 1.
 pub fn report_of(input: &[u8]) -> Report
     ensures { λ r. ⌜ Prints (reportOf (now (input .entry))) (r .bytes) (r .count) ⌝ }
 {
@@ -141,7 +142,11 @@ pub fn report_of(input: &[u8]) -> Report
     };
     report_cluster(
         &input[COMMAND_SIZE..],
-        Shape { n, m },
+        Shape {
+            n,
+            m,
+            edition: OLD_EDITION,
+        },
         leading,
         present_word(n, leading, present),
     )

@@ -18,8 +18,9 @@ use Rattle.protocol.proofs.Runs.{enough, step-law, final-stored, final-
 use Rattle.protocol.proofs.Keeps.{stored-off, torn-off, Target, due-target}
 
 pub record Always (S : Setting) (F₀ F : Cluster) : Type 0 where
-  -- the same replicas are readable, the others keep what they have, the planner's answer is the first one
+  -- the same replicas are readable, all have the same first indices, the others keep what they have, the planner's answer is the first one
   pub readables : (c : ℕ) → viewsOf S F c .readable ≡ viewsOf S F₀ c .readable
+  pub firsts : (c : ℕ) → viewsOf S F c .first ≡ viewsOf S F₀ c .first
   pub untouched : (c : ℕ) → viewsOf S F₀ c .readable ≡ false → F c ≡ F₀ c
   pub answers : answer S (viewsOf S F) ≡ answer S (viewsOf S F₀)
   -- a run with stores enough leaves the same cluster; one with nothing to store stays
@@ -42,6 +43,7 @@ module _ (S : Setting) (F₀ : Cluster) (n : S .leader < S .shape .n) where
       let p = step-law S F s n x in
       record {
         readables = λ c. p .readables c ∙ i .readables c;
+        firsts = λ c. p .firsts c ∙ i .firsts c;
         untouched = λ c f. stored-off s F c (off-target F s i (due-target S F s n (o .plan) (o .is-due)) c f) ∙ i .untouched c f;
         answers = p .answers ∙ i .answers;
         finals = final-stored S n F s x ∙ i .finals;
@@ -54,6 +56,7 @@ module _ (S : Setting) (F₀ : Cluster) (n : S .leader < S .shape .n) where
       let same = torn-law S F G s x t .views-same in
       record {
         readables = λ c. rw same (i .readables c);
+        firsts = λ c. rw same (i .firsts c);
         untouched = λ c f. torn-off s F G t c (off-target F s i (due-target S F s n (o .plan) (o .is-due)) c f) ∙ i .untouched c f;
         answers = rw same (i .answers);
         finals = final-torn S n F G s x t ∙ i .finals;
@@ -63,4 +66,4 @@ module _ (S : Setting) (F₀ : Cluster) (n : S .leader < S .shape .n) where
   pub always : {F : Cluster} → Reach S F₀ F → Always S F₀ F
   always r =
       reach-keeps S (Always S F₀) stored-always torn-always
-      (record { readables = λ c. refl; untouched = λ c f. refl; answers = refl; finals = refl; still = λ z. refl }) r
+      (record { readables = λ c. refl; firsts = λ c. refl; untouched = λ c f. refl; answers = refl; finals = refl; still = λ z. refl }) r

@@ -1,5 +1,5 @@
 -- What a call answers and leaves, by whether it is refused and by the planner's answer.
-use Prim.Native.Nat.{ℕ, zero, suc, _<_}
+use Prim.Native.Nat.{ℕ, zero, suc, pred, _<_}
 use mathlib.Core.Path.{_≡_, refl, sym, ap, _∙_}
 use mathlib.Core.Bool.{Bool, true, false, cond, not}
 use native.Mathlib.Omega.{arith}
@@ -9,25 +9,29 @@ use lib.ListN.{length}
 use borrow.Author.Tests.{eq-eqb, ne-eqb}
 use Rattle.slices.specs.Parts.{Bytes}
 use Rattle.image.specs.Refusal.{_else_}
-use Rattle.image.specs.View.{isSize, isSlots}
+use Rattle.image.specs.View.{isSize, isSlots, isEdition}
 use Rattle.image.specs.Cluster.{imageAt}
+use Rattle.image.specs.View.{View}
 use Rattle.image.proofs.RefusalLaws.{refuse-off, else-zero-l}
 use Rattle.planner.specs.Setting.{Setting, settingOf}
-use Rattle.planner.specs.Rules.{Answer, Refused, Waiting, Ready, answer, firstWaiting, end}
+use Rattle.planner.specs.Rules.{Answer, Refused, Waiting, Ready, answer, firstWaiting, end, sameFirsts}
 use Rattle.planner.specs.Plan.{viewsIn, clusterRefusal, lentRefusal, planRefusal}
-use Rattle.planner.proofs.ShapeLaws.{shaped-slots, shaped-size, shaped-bytes}
-use Rattle.planner.proofs.CallLaws.{leader-accepted, cluster-shaped}
+use Rattle.planner.proofs.ShapeLaws.{shaped-slots, shaped-size, shaped-edition, shaped-bytes}
+use Rattle.planner.proofs.CallLaws.{leader-accepted, firsts-accepted, cluster-shaped, cluster-cong}
 use Rattle.protocol.specs.StepBytes.{nextIn, stepsBytes, storesBytes}
 use Rattle.protocol.specs.Call.{Call, plan, step, run, Numbers, named, budgetOf, refusalIn, refusalOf}
+use Rattle.protocol.proofs.ReadyPlan.{firsts-same}
 use Rattle.protocol.specs.CallResult.{refused, callResult, callBytes, acceptedResult, readyResult, answered, stepResult, runResult, planning}
 
 -- what a cluster that is not refused has
 pub record Accepted (N : Numbers) (b : Bytes) : Type 0 where
   pub slots : isSlots (N .shape .m) ≡ true
   pub sizes : isSize (N .shape .n) ≡ true
+  pub editions : isEdition (N .shape .edition) ≡ true
   pub size : length b ≡ imageAt (N .shape) (N .shape .n)
   pub low : named N .leader < N .shape .n
   pub readable : viewsIn (named N) b (named N .leader) .readable ≡ true
+  pub firsts : sameFirsts (named N) (viewsIn (named N) b) ≡ true
 
 pub accepted : (N : Numbers) (b : Bytes) → refusalIn N b ≡ 0 → Accepted N b
 unfolding settingOf
@@ -37,9 +41,11 @@ accepted N b e =
     record {
       slots = shaped-slots (N .shape) (N .present) (length b) z;
       sizes = shaped-size (N .shape) (N .present) (length b) z;
+      editions = shaped-edition (N .shape) (N .present) (length b) z;
       size = shaped-bytes (N .shape) (N .present) (length b) z;
       low = l .0;
       readable = l .1;
+      firsts = firsts-accepted (N .shape) (N .leader) (N .present) b e;
     }
 
 -- a call that is not refused finds the cluster not refused
@@ -49,10 +55,11 @@ call-accepted N (plan p r) b e = else-zero-l _ _ e
 call-accepted N step b e = e
 call-accepted N (run j) b e = e
 
-pub refusal-same : (N : Numbers) (a b : Bytes) → length a ≡ length b → viewsIn (named N) a (named N .leader) .readable ≡ viewsIn (named N) b (named N .leader) .readable
-    → refusalIn N a ≡ refusalIn N b
-unfolding clusterRefusal settingOf
-refusal-same N a b l r = rw (r, l)
+-- bytes of one size, of which the same replicas are readable with the same first indices, are refused alike
+pub refusal-same : (N : Numbers) (a b : Bytes) → length a ≡ length b → ((c : ℕ) → viewsIn (named N) a c .readable ≡ viewsIn (named N) b c .readable)
+    → ((c : ℕ) → viewsIn (named N) a c .first ≡ viewsIn (named N) b c .first) → refusalIn N a ≡ refusalIn N b
+refusal-same N a b l r f =
+    cluster-cong (N .shape) (N .leader) (N .present) a b l (r (pred (N .leader))) (firsts-same (named N) (viewsIn (named N) b) (viewsIn (named N) a) r f)
 
 -- ---- results and bytes
 module _ (N : Numbers) (q : Call) (b : Bytes) where
@@ -127,13 +134,32 @@ module _ (N : Numbers) (b : Bytes) where
     step-bytes = made-bytes N step b e
 
 -- ---- a cluster is refused, waits or is ready
-pub not-refused : (S : Setting) (b : Bytes) → viewsIn S b (S .leader) .readable ≡ true → answer S (viewsIn S b) ≡ Refused → ⊥
+pub not-refused : (S : Setting) (b : Bytes) → viewsIn S b (S .leader) .readable ≡ true → sameFirsts S (viewsIn S b) ≡ true → answer S (viewsIn S b) ≡ Refused → ⊥
 unfolding answer
-not-refused S b r e = go (ltb (firstWaiting S (viewsIn S b)) (end S (viewsIn S b))) (rw r at e)
+not-refused S b r f e = go (ltb (firstWaiting S (viewsIn S b)) (end S (viewsIn S b))) (rw (r, f) at e)
   where
     go : (t : Bool) → cond t (Waiting (firstWaiting S (viewsIn S b))) (Ready (end S (viewsIn S b))) ≡ Refused → ⊥
     go true x = let z : _≡_ {A = ℕ} 0 1 = cc in omega arith
     go false x = let z : _≡_ {A = ℕ} 0 1 = cc in omega arith
+
+-- what a cluster has for which the rules answer
+pub answers-with : (S : Setting) (W : ℕ → View) → (answer S W ≡ Refused → ⊥) → (W (S .leader) .readable ≡ true) × (sameFirsts S W ≡ true)
+unfolding answer
+answers-with S W h = go (W (S .leader) .readable) (sameFirsts S W) refl refl
+  where
+    go : (r f : Bool) → W (S .leader) .readable ≡ r → sameFirsts S W ≡ f → (W (S .leader) .readable ≡ true) × (sameFirsts S W ≡ true)
+    go true true p q = (p, q)
+    go true false p q = absurd (h (rw (p, q)))
+    go false f p q = absurd (h (rw p))
+
+-- an accepted cluster stays accepted while the planner's answer stays
+pub refusal-kept : (N : Numbers) (a b : Bytes) → length a ≡ length b → answer (named N) (viewsIn (named N) a) ≡ answer (named N) (viewsIn (named N) b)
+    → refusalIn N b ≡ 0 → refusalIn N a ≡ 0
+unfolding settingOf
+refusal-kept N a b l x e =
+    let v = accepted N b e in
+    let w = answers-with (named N) (viewsIn (named N) a) (λ q. not-refused (named N) b (v .readable) (v .firsts) (sym x ∙ q)) in
+    cluster-cong (N .shape) (N .leader) (N .present) a b l (w .0 ∙ sym (v .readable)) (w .1 ∙ sym (v .firsts)) ∙ e
 
 pub data Standing (N : Numbers) (b : Bytes) : Type 0 where
   isRefused : (refusalIn N b ≡ 0 → ⊥) → Standing N b
@@ -149,5 +175,5 @@ standing N b = go (ℕ-discrete (refusalIn N b) 0)
     by e (Ready l) x h = isReady e l x
 
     go : Dec (refusalIn N b ≡ 0) → Standing N b
-    go (yes e) = by e (answer (named N) (viewsIn (named N) b)) refl (not-refused (named N) b (accepted N b e .readable))
+    go (yes e) = by e (answer (named N) (viewsIn (named N) b)) refl (not-refused (named N) b (accepted N b e .readable) (accepted N b e .firsts))
     go (no h) = isRefused h

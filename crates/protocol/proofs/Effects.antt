@@ -75,6 +75,7 @@ lost-used (bad b) x h = refl
 -- ---- a view before and after
 pub record Blanked (l : ℕ) (a b : View) : Type 0 where
   pub readable : b .readable ≡ true
+  pub first : b .first ≡ a .first
   pub was : a .length ≡ suc l
   pub is : b .length ≡ l
   pub conditions : (j : ℕ) → j < l → b .condition j ≡ a .condition j
@@ -82,6 +83,7 @@ pub record Blanked (l : ℕ) (a b : View) : Type 0 where
 
 pub record Mended (k : ℕ) (a b : View) : Type 0 where
   pub readable : b .readable ≡ true
+  pub first : b .first ≡ a .first
   pub lengths : b .length ≡ a .length
   pub whole : b .condition k ≡ Whole
   pub conditions : (j : ℕ) → (j ≡ k → ⊥) → b .condition j ≡ a .condition j
@@ -89,6 +91,7 @@ pub record Mended (k : ℕ) (a b : View) : Type 0 where
 
 pub record Appended (l e : ℕ) (a b : View) : Type 0 where
   pub readable : b .readable ≡ true
+  pub first : b .first ≡ a .first
   pub was : a .length ≡ l
   pub is : b .length ≡ suc l
   pub whole : b .condition l ≡ Whole
@@ -96,8 +99,8 @@ pub record Appended (l e : ℕ) (a b : View) : Type 0 where
   pub epoch : b .epoch l ≡ e
   pub epochs : (j : ℕ) → j < l → b .epoch j ≡ a .epoch j
 
-pub view-ext : (a b : View) → a .readable ≡ b .readable → a .length ≡ b .length → ((j : ℕ) → a .condition j ≡ b .condition j) → ((j : ℕ) → a .epoch j ≡ b .epoch j) → a ≡ b
-view-ext a b p q r s = λ i. record { readable = p i; length = q i; condition = λ j. r j i; epoch = λ j. s j i }
+pub view-ext : (a b : View) → a .readable ≡ b .readable → a .first ≡ b .first → a .length ≡ b .length → ((j : ℕ) → a .condition j ≡ b .condition j) → ((j : ℕ) → a .epoch j ≡ b .epoch j) → a ≡ b
+view-ext a b p f q r s = λ i. record { readable = p i; first = f i; length = q i; condition = λ j. r j i; epoch = λ j. s j i }
 
 module _ (S : Setting) (c : ℕ) (i : Image) (ok : view S c i .readable ≡ true) where
   sound : Sound (S .shape .m) i
@@ -110,6 +113,7 @@ module _ (S : Setting) (c : ℕ) (i : Image) (ok : view S c i .readable ≡ true
   unfolding viewOf setRecord
   blank-effect l h = record {
     readable = readable (setRecord i l blank) (blanked-sound (S .shape .m) i l sound h);
+    first = refl;
     was = h;
     is = blanked-length (S .shape .m) i l sound h;
     conditions = λ j b. record-condition-other (S .shape .m) i l blank j (omega arith);
@@ -126,6 +130,7 @@ module _ (S : Setting) (c : ℕ) (i : Image) (ok : view S c i .readable ≡ true
       let w : condition (i .records k) x ≡ Whole = rw (g .is) (whole-beside (g .epoch) p) in
       record {
         readable = readable (setEntry i k x) (entry-sound (S .shape .m) i k x sound (ap isLost w) same);
+        first = refl;
         lengths = entry-length (S .shape .m) i k x;
         whole = entry-condition (S .shape .m) i k x ∙ w;
         conditions = entry-condition-other (S .shape .m) i k x;
@@ -142,6 +147,7 @@ module _ (S : Setting) (c : ℕ) (i : Image) (ok : view S c i .readable ≡ true
       let u = lost-used (i .records k) (i .entries k) h in
       record {
         readable = readable (setRecord i k (good e)) (mended-sound (S .shape .m) i k e sound u refl (ap isLost w));
+        first = refl;
         lengths = mended-length (S .shape .m) i k e sound u refl;
         whole = record-condition (S .shape .m) i k (good e) ∙ w;
         conditions = record-condition-other (S .shape .m) i k (good e);
@@ -158,6 +164,7 @@ module _ (S : Setting) (c : ℕ) (i : Image) (ok : view S c i .readable ≡ true
       let w : condition (good e) (i .entries l) ≡ Whole = ap (λ (y : Entry). condition (good e) y) x ∙ whole-beside e p in
       record {
         readable = readable (setRecord i l (good e)) (appended-sound (S .shape .m) i l e sound refl room (ap isLost w) up);
+        first = refl;
         was = refl;
         is = appended-length (S .shape .m) i l e sound refl room;
         whole = record-condition (S .shape .m) i l (good e) ∙ w;
@@ -173,6 +180,7 @@ module _ (S : Setting) (c : ℕ) (i : Image) (ok : view S c i .readable ≡ true
   still k x e f l =
       view-ext (view S c (setEntry i k x)) (view S c i)
       (readable (setEntry i k x) (entry-sound (S .shape .m) i k x sound (ap isLost e ∙ l) f) ∙ sym ok)
+      refl
       refl
       (λ j. same j (ℕ-discrete j k))
       (entry-epoch (S .shape .m) i k x f)

@@ -137,16 +137,19 @@ pub due-slot : (S : Setting) (F : Cluster) (s : Store) → Due S F s → storeSl
 due-slot S F s (by-leader e d) = leader-slot S F s d
 due-slot S F s (by-follower e f d) = follower-slot S F s d
 
-leader-donor : (S : Setting) (F : Cluster) (c k d : ℕ) → LeaderDue S F (storeEntry c k d) → d < S .shape .n
-leader-donor S F c k d (leader-fetch j h full e) = fetch-facts S (viewsOf S F) k e .below
+-- an entry is copied from a replica that is readable too
+leader-donor : (S : Setting) (F : Cluster) (c k d : ℕ) → LeaderDue S F (storeEntry c k d) → Target S F d
+leader-donor S F c k d (leader-fetch j h full e) =
+    let x = fetch-facts S (viewsOf S F) k e in
+    record { below = x .below; ok = answers-readable S (viewsOf S F) d (x .asked) }
 
-follower-donor : (S : Setting) (F : Cluster) (c k d : ℕ) → S .leader < S .shape .n → FollowerDue S F (storeEntry c k d) → d < S .shape .n
-follower-donor S F c k d n (follower-mend c′ ld cn an full j h e) = n
-follower-donor S F c k d n (follower-fill c′ ld cn an full h e) = n
+follower-donor : (S : Setting) (F : Cluster) (c k d : ℕ) → S .leader < S .shape .n → ReadyPlan S (viewsOf S F) → FollowerDue S F (storeEntry c k d) → Target S F d
+follower-donor S F c k d n r (follower-mend c′ ld cn an full j h e) = record { below = n; ok = r .leader }
+follower-donor S F c k d n r (follower-fill c′ ld cn an full h e) = record { below = n; ok = r .leader }
 
-pub due-donor : (S : Setting) (F : Cluster) (c k d : ℕ) → S .leader < S .shape .n → Due S F (storeEntry c k d) → d < S .shape .n
-due-donor S F c k d n (by-leader e u) = leader-donor S F c k d u
-due-donor S F c k d n (by-follower e f u) = follower-donor S F c k d n u
+pub due-donor : (S : Setting) (F : Cluster) (c k d : ℕ) → S .leader < S .shape .n → ReadyPlan S (viewsOf S F) → Due S F (storeEntry c k d) → Target S F d
+due-donor S F c k d n r (by-leader e u) = leader-donor S F c k d u
+due-donor S F c k d n r (by-follower e f u) = follower-donor S F c k d n r u
 
 pub record SomeEntry (F : Cluster) (k e : ℕ) : Type 0 where
   pub from : ℕ

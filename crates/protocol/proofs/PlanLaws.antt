@@ -1,4 +1,4 @@
--- A store that was due, once made, leaves the planner's answer and the readable replicas as they were (`same-plan`).
+-- A store that was due, once made, leaves the planner's answer, the readable replicas and their first indices as they were (`same-plan`).
 use mathlib.Core.Path.{_≡_, refl, sym, ap, _∙_, fun-ext}
 use mathlib.Core.Bool.{Bool, true, false, not, _&&_}
 use Prim.Native.Nat.{ℕ, _≤_, _<_}
@@ -14,7 +14,7 @@ use Rattle.image.specs.Read.{isWhole}
 use Rattle.planner.specs.Setting.{Setting, viewsOf}
 use Rattle.planner.specs.Rules.{isFaulty, answers, agrees, have, dontHave, Keep, isTruncate, isWait, rule, donor, end, firstWaiting, answer, Ready}
 use Rattle.protocol.proofs.Effects.{view, Blanked, Mended}
-use Rattle.protocol.proofs.ReadyPlan.{ReadyPlan}
+use Rattle.protocol.proofs.ReadyPlan.{ReadyPlan, firsts-same}
 use Rattle.protocol.proofs.LeaderDue.{LeaderDone}
 use Rattle.protocol.proofs.Slots.{answers-readable, answers-other}
 use Rattle.protocol.proofs.Moves.{Off, Move, leader-blanked, leader-mended, follower-blanked, follower-mended, follower-filled, follower-appended}
@@ -65,7 +65,7 @@ pub ready-intro : (S : Setting) (W : ℕ → View) → ReadyPlan S W → answer 
 unfolding answer firstWaiting
 ready-intro S W r =
     let z : lowest (λ k. isWait (rule S W k)) (end S W) ≡ end S W = lowest-is (λ k. isWait (rule S W k)) (end S W) (end S W) (omega arith) (r .unstuck) (λ h. absurd (omega arith)) in
-    rw (r .leader, le-ltb (firstWaiting S W) (end S W) (omega arith))
+    rw (r .leader, r .firsts, le-ltb (firstWaiting S W) (end S W) (omega arith))
 
 pub rule-keep-unfaulty : (S : Setting) (W : ℕ → View) (k : ℕ) → isFaulty (W (S .leader) .condition k) ≡ false → rule S W k ≡ Keep
 unfolding rule
@@ -75,6 +75,7 @@ pub record SamePlan (S : Setting) (W U : ℕ → View) : Type 0 where
   pub plan : ReadyPlan S U
   pub ends : end S U ≡ end S W
   pub readables : (c : ℕ) → U c .readable ≡ W c .readable
+  pub firsts : (c : ℕ) → U c .first ≡ W c .first
 
 pub answer-same : (S : Setting) (W U : ℕ → View) → ReadyPlan S W → SamePlan S W U → answer S U ≡ answer S W
 answer-same S W U r s = ready-intro S U (s .plan) ∙ ap Ready (s .ends) ∙ sym (ready-intro S W r)
@@ -91,15 +92,24 @@ readable-same S F G c off a b d = go (ℕ-discrete d c)
     go (yes q) = rw q (b ∙ sym a)
     go (no q) = rw (off-views S F G c off d q)
 
+-- and keeps its first index
+first-same : (S : Setting) (F G : Cluster) (c : ℕ) → Off c F G → viewsOf S G c .first ≡ viewsOf S F c .first → (d : ℕ) → viewsOf S G d .first ≡ viewsOf S F d .first
+first-same S F G c off f d = go (ℕ-discrete d c)
+  where
+    go : Dec (d ≡ c) → viewsOf S G d .first ≡ viewsOf S F d .first
+    go (yes q) = rw q f
+    go (no q) = rw (off-views S F G c off d q)
+
 -- ---- the leader's moves
 blanked-plan : (S : Setting) (F G : Cluster) (l : ℕ) → ReadyPlan S (viewsOf S F) → Off (S .leader) F G → Blanked l (viewsOf S F (S .leader)) (viewsOf S G (S .leader)) → end S (viewsOf S F) ≤ l
     → SamePlan S (viewsOf S F) (viewsOf S G)
 unfolding end
 blanked-plan S F G l r off t h =
     record {
-      plan = record { leader = t .readable; unstuck = λ k b. ap isWait (same k (omega (arith, ends, b))) ∙ r .unstuck k (omega (arith, ends, b)) };
+      plan = record { leader = t .readable; firsts = firsts-same S W U reads begins ∙ r .firsts; unstuck = λ k b. ap isWait (same k (omega (arith, ends, b))) ∙ r .unstuck k (omega (arith, ends, b)) };
       ends = ends;
-      readables = readable-same S F G (S .leader) off (r .leader) (t .readable);
+      readables = reads;
+      firsts = begins;
     }
   where
     W : ℕ → View
@@ -107,6 +117,12 @@ blanked-plan S F G l r off t h =
 
     U : ℕ → View
     U = viewsOf S G
+
+    reads : (c : ℕ) → U c .readable ≡ W c .readable
+    reads = readable-same S F G (S .leader) off (r .leader) (t .readable)
+
+    begins : (c : ℕ) → U c .first ≡ W c .first
+    begins = first-same S F G (S .leader) off (t .first)
 
     same : (k : ℕ) → k < l → rule S U k ≡ rule S W k
     same k b = rule-same S W U (off-views S F G (S .leader) off) k (t .epochs k b) (t .conditions k b)
@@ -124,9 +140,10 @@ mended-plan : (S : Setting) (F G : Cluster) (k : ℕ) → ReadyPlan S (viewsOf S
 unfolding end isTruncate isWait isFaulty
 mended-plan S F G k r off t x y =
     record {
-      plan = record { leader = t .readable; unstuck = λ j b. waits j ∙ r .unstuck j (omega (arith, ends, b)) };
+      plan = record { leader = t .readable; firsts = firsts-same S W U reads begins ∙ r .firsts; unstuck = λ j b. waits j ∙ r .unstuck j (omega (arith, ends, b)) };
       ends = ends;
-      readables = readable-same S F G (S .leader) off (r .leader) (t .readable);
+      readables = reads;
+      firsts = begins;
     }
   where
     W : ℕ → View
@@ -134,6 +151,12 @@ mended-plan S F G k r off t x y =
 
     U : ℕ → View
     U = viewsOf S G
+
+    reads : (c : ℕ) → U c .readable ≡ W c .readable
+    reads = readable-same S F G (S .leader) off (r .leader) (t .readable)
+
+    begins : (c : ℕ) → U c .first ≡ W c .first
+    begins = first-same S F G (S .leader) off (t .first)
 
     same : (j : ℕ) → (j ≡ k → ⊥) → rule S U j ≡ rule S W j
     same j b = rule-same S W U (off-views S F G (S .leader) off) j (t .epochs j) (t .conditions j b)
@@ -170,24 +193,31 @@ follower-done S W U e d = record {
     unfaulty : (k : ℕ) → k < U (S .leader) .length → isFaulty (U (S .leader) .condition k) ≡ false
     unfaulty k h = rw e (d .unfaulty k (rw e at h))
 
-follower-plan : (S : Setting) (F G : Cluster) (c : ℕ) → ReadyPlan S (viewsOf S F) → LeaderDone S (viewsOf S F) → answers S (viewsOf S F) c ≡ true → Off c F G → viewsOf S G c .readable ≡ true
+follower-plan : (S : Setting) (F G : Cluster) (c : ℕ) → ReadyPlan S (viewsOf S F) → LeaderDone S (viewsOf S F) → answers S (viewsOf S F) c ≡ true → Off c F G → viewsOf S G c .readable ≡ true → viewsOf S G c .first ≡ viewsOf S F c .first
     → SamePlan S (viewsOf S F) (viewsOf S G)
 unfolding isWait
-follower-plan S F G c r ld an off ok =
+follower-plan S F G c r ld an off ok first =
     let d = follower-done S (viewsOf S F) (viewsOf S G) here ld in
     record {
-      plan = record { leader = rw here (r .leader); unstuck = λ k h. ap isWait (rule-keep-unfaulty S (viewsOf S G) k (d .unfaulty k (omega (arith, d .untruncated, h)))) };
+      plan = record { leader = rw here (r .leader); firsts = firsts-same S (viewsOf S F) (viewsOf S G) reads begins ∙ r .firsts; unstuck = λ k h. ap isWait (rule-keep-unfaulty S (viewsOf S G) k (d .unfaulty k (omega (arith, d .untruncated, h)))) };
       ends = d .untruncated ∙ ap (λ (a : View). a .length) here ∙ sym (ld .untruncated);
-      readables = readable-same S F G c off (answers-readable S (viewsOf S F) c an) ok;
+      readables = reads;
+      firsts = begins;
     }
   where
+    reads : (d : ℕ) → viewsOf S G d .readable ≡ viewsOf S F d .readable
+    reads = readable-same S F G c off (answers-readable S (viewsOf S F) c an) ok
+
+    begins : (d : ℕ) → viewsOf S G d .first ≡ viewsOf S F d .first
+    begins = first-same S F G c off first
+
     here : viewsOf S G (S .leader) ≡ viewsOf S F (S .leader)
     here = off-views S F G c off (S .leader) (λ q. answers-other S (viewsOf S F) c an (sym q))
 
 pub same-plan : (S : Setting) (F G : Cluster) → ReadyPlan S (viewsOf S F) → Move S F G → SamePlan S (viewsOf S F) (viewsOf S G)
 same-plan S F G r (leader-blanked l off t h) = blanked-plan S F G l r off t h
 same-plan S F G r (leader-mended k off t h full x y u) = mended-plan S F G k r off t x y
-same-plan S F G r (follower-blanked c l ld cn an off t h) = follower-plan S F G c r ld an off (t .readable)
-same-plan S F G r (follower-mended c k ld cn an off t h full u w) = follower-plan S F G c r ld an off (t .readable)
-same-plan S F G r (follower-filled c ld cn an off t full h u v) = follower-plan S F G c r ld an off (rw t (answers-readable S (viewsOf S F) c an))
-same-plan S F G r (follower-appended c ld cn an off t full h u) = follower-plan S F G c r ld an off (t .readable)
+same-plan S F G r (follower-blanked c l ld cn an off t h) = follower-plan S F G c r ld an off (t .readable) (t .first)
+same-plan S F G r (follower-mended c k ld cn an off t h full u w) = follower-plan S F G c r ld an off (t .readable) (t .first)
+same-plan S F G r (follower-filled c ld cn an off t full h u v) = follower-plan S F G c r ld an off (rw t (answers-readable S (viewsOf S F) c an)) (rw t)
+same-plan S F G r (follower-appended c ld cn an off t full h u) = follower-plan S F G c r ld an off (t .readable) (t .first)

@@ -1,27 +1,30 @@
 -- What recovery can reach, in bytes, with nothing supposed.
 use Prim.Native.Nat.{ℕ, _≤_, _<_}
-use mathlib.Core.Path.{_≡_, sym, _∙_}
+use mathlib.Core.Path.{_≡_, sym, ap, _∙_}
 use mathlib.Core.Bool.{false}
 use mathlib.Core.Option.{none, some}
 use native.Mathlib.Omega.{arith}
+use native.Mathlib.Decide.{ℕ-discrete}
 use lib.ListN.{length}
 use Rattle.slices.specs.Parts.{Bytes}
-use Rattle.image.specs.Cluster.{imageAt, imagePart, decode}
+use Rattle.image.specs.Cluster.{imageAt, imagePart, firstAt, decode}
 use Rattle.image.proofs.EncodeLaws.{decode-injective, image-part-same}
 use Rattle.planner.specs.Setting.{Setting, settingOf}
 use Rattle.planner.specs.Rules.{answer, Waiting}
-use Rattle.planner.specs.Plan.{viewsIn}
+use Rattle.planner.specs.Plan.{viewsIn, lentRefusal, planRefusal}
 use Rattle.protocol.specs.Store.{Store}
 use Rattle.protocol.specs.Recovery.{next, ifReady}
 use Rattle.protocol.specs.ClusterSteps.{steps}
 use Rattle.protocol.specs.StepBytes.{nextIn, stepsBytes, storesBytes}
-use Rattle.protocol.specs.Call.{Numbers, named, refusalIn}
+use Rattle.protocol.specs.Call.{Call, plan, step, run, Numbers, named, budgetOf, refusalIn, refusalOf}
+use Rattle.protocol.specs.CallResult.{callBytes}
 use Rattle.protocol.proofs.Work.{work-bound}
 use Rattle.protocol.proofs.Reach.{Reach}
 use Rattle.protocol.proofs.Runs.{reach-steps, enough, finishes, stores-bound, spent-all, steps-stores, unspent}
 use Rattle.protocol.proofs.Always.{Always, always}
+use Rattle.protocol.proofs.FirstLaws.{reach-first}
 use Rattle.protocol.proofs.StepLaws.{Means, steps-mean, stores-mean}
-use Rattle.protocol.proofs.CallLaws.{accepted, refusal-same}
+use Rattle.protocol.proofs.CallLaws.{accepted, call-accepted, refusal-same, made-bytes, refused-bytes}
 
 -- b is what recovery can reach from b₀, and has its size
 pub record Reached (S : Setting) (b₀ b : Bytes) : Type 0 where
@@ -34,10 +37,15 @@ steps-reached S low j b size =
     let w = steps-mean S low j b size in
     record { size = w .size; reach = rw (w .is) (reach-steps S j (decode (S .shape) b)) }
 
+-- leave every log beginning where it began
+pub steps-first : (S : Setting) → S .leader < S .shape .n → (j : ℕ) (b : Bytes) → length b ≡ imageAt (S .shape) (S .shape .n) → (c : ℕ) → firstAt (S .shape) (stepsBytes S j b) c ≡ firstAt (S .shape) b c
+steps-first S low j b size c = reach-first S b (stepsBytes S j b) (steps-reached S low j b size .reach) c
+
 -- where planning is not refused: b₀ the cluster at first, b one that recovery can reach
 pub record Unsupposed (S : Setting) (b₀ b : Bytes) : Type 0 where
   pub away : (c : ℕ) → c < S .shape .n → viewsIn S b₀ c .readable ≡ false → imagePart (S .shape) b c ≡ imagePart (S .shape) b₀ c
   pub readables : (c : ℕ) → viewsIn S b c .readable ≡ viewsIn S b₀ c .readable
+  pub firsts : (c : ℕ) → viewsIn S b c .first ≡ viewsIn S b₀ c .first
   pub answers : answer S (viewsIn S b) ≡ answer S (viewsIn S b₀)
   pub waiting : (k : ℕ) → answer S (viewsIn S b₀) ≡ Waiting k → b ≡ b₀
   pub bounded : (j : ℕ) → storesBytes S j b ≤ enough S
@@ -80,6 +88,7 @@ module _ (S : Setting) (low : S .leader < S .shape .n) (b₀ b : Bytes) (size : 
       record {
         away = λ c cn f. image-part-same (S .shape) b b₀ (r .size) size c cn (a .untouched c f);
         readables = a .readables;
+        firsts = a .firsts;
         answers = a .answers;
         waiting = λ k e. decode-injective (S .shape) b b₀ (r .size) size (a .still (waiting-none S b₀ k e));
         bounded = λ j. rw (stores-mean S low j b (r .size)) (stores-bound S low j F);
@@ -102,8 +111,26 @@ unfolding settingOf
 after-reached N {b₀ = b₀} {b = b} e r =
     let v = accepted N b₀ e in
     let u = unsupposed (named N) (v .low) b₀ b (v .size) r in
-    record { size = r .size; accepts = refusal-same N b b₀ (r .size ∙ sym (v .size)) (u .readables (named N .leader)) ∙ e; facts = u }
+    record { size = r .size; accepts = refusal-same N b b₀ (r .size ∙ sym (v .size)) (u .readables) (u .firsts) ∙ e; facts = u }
 
 pub after-run : (N : Numbers) (b : Bytes) → refusalIn N b ≡ 0 → (j : ℕ) → After N b (stepsBytes (named N) j b)
 unfolding settingOf
 after-run N b e j = let v = accepted N b e in after-reached N e (steps-reached (named N) (v .low) j b (v .size))
+
+-- ---- refusals, 21 among them, neither come nor go by a call
+
+pub refusal-stays : (N : Numbers) (q : Call) (b : Bytes) → refusalIn N (callBytes N q b) ≡ refusalIn N b
+refusal-stays N q b = go (ℕ-discrete (refusalOf N q b) 0)
+  where
+    go : Dec (refusalOf N q b ≡ 0) → refusalIn N (callBytes N q b) ≡ refusalIn N b
+    go (yes e) =
+        let a = call-accepted N q b e in
+        ap (refusalIn N) (made-bytes N q b e) ∙ after-run N b a (budgetOf q) .accepts ∙ sym a
+    go (no h) = ap (refusalIn N) (refused-bytes N q b h)
+
+-- nor of any other call after it
+pub refusals-stay : (N : Numbers) (q r : Call) (b : Bytes) → refusalOf N r (callBytes N q b) ≡ refusalOf N r b
+unfolding refusalOf planRefusal
+refusals-stay N q (plan p t) b = ap (λ (x : ℕ). lentRefusal x (N .shape) p t) (refusal-stays N q b)
+refusals-stay N q step b = refusal-stays N q b
+refusals-stay N q (run j) b = refusal-stays N q b

@@ -18,18 +18,24 @@ use Rattle.protocol.proofs.Measure.{work-falls}
 use Rattle.protocol.proofs.Reach.{Torn, Reach, here, made}
 use Rattle.protocol.proofs.TornLaw.{torn-law}
 
--- law 1: a store that was due, made, leaves less work, the same answer and the same readable replicas
+-- law 1: a store that was due, made, leaves less work, the same answer, the same readable replicas and the same first indices
 pub record Progress (S : Setting) (F G : Cluster) : Type 0 where
   pub less : work S G < work S F
   pub answers : answer S (viewsOf S G) ≡ answer S (viewsOf S F)
   pub readables : (c : ℕ) → viewsOf S G c .readable ≡ viewsOf S F c .readable
+  pub firsts : (c : ℕ) → viewsOf S G c .first ≡ viewsOf S F c .first
 
 pub step-law : (S : Setting) (F : Cluster) (s : Store) → S .leader < S .shape .n → next S F ≡ some s → Progress S F (afterStore s F)
 step-law S F s ok e =
     let o = due-facts S F s e in
     let v = moved S F s (o .plan) (o .is-due) in
     let p = same-plan S F (afterStore s F) (o .plan) v in
-    record { less = work-falls S F (afterStore s F) ok (o .plan) v; answers = answer-same S (viewsOf S F) (viewsOf S (afterStore s F)) (o .plan) p; readables = p .readables }
+    record {
+      less = work-falls S F (afterStore s F) ok (o .plan) v;
+      answers = answer-same S (viewsOf S F) (viewsOf S (afterStore s F)) (o .plan) p;
+      readables = p .readables;
+      firsts = p .firsts;
+    }
 
 module _ (S : Setting) where
   pub steps-none : (b : ℕ) (F : Cluster) → next S F ≡ none → steps S b F ≡ F

@@ -6,10 +6,10 @@ use mathlib.Core.Option.{Option, none, some}
 use native.Mathlib.Omega.{arith}
 use lib.ListN.{length}
 use Rattle.search.specs.Put.{put}
-use Rattle.slices.specs.Parts.{Bytes, part}
+use Rattle.slices.specs.Parts.{Bytes, part, spliced}
 use Rattle.slices.proofs.PartLaws.{length-part}
 use Rattle.record.specs.Layout.{recordBytes, blankRecord}
-use Rattle.record.specs.Meaning.{Record, Entry, isEpoch}
+use Rattle.record.specs.Meaning.{Record, good, Entry, firstIndex, isEpoch, readRecord}
 use Rattle.record.proofs.LayoutLaws.{length-record, length-blank}
 use Rattle.record.proofs.RecordLaws.{read-good, read-blank}
 use Rattle.record.proofs.EntryLaws.{intact-for}
@@ -24,7 +24,7 @@ use Rattle.protocol.specs.ClusterSteps.{afterStore}
 use Rattle.protocol.specs.Recovery.{next, after}
 use Rattle.protocol.specs.ClusterSteps.{steps, stores}
 use Rattle.protocol.specs.StepBytes.{afterStoreBytes, nextIn, stepsBytes, storesBytes}
-use Rattle.protocol.proofs.FirstLaws.{entry-as}
+use Rattle.protocol.proofs.FirstLaws.{entry-as, target-first, first-means, stored-header}
 use Rattle.protocol.proofs.ReadyPlan.{ReadyPlan}
 use Rattle.protocol.proofs.Due.{Due, due-facts}
 use Rattle.protocol.proofs.Keeps.{SomeEntry, due-target, due-slot, due-donor, due-epoch}
@@ -42,30 +42,38 @@ module _ (S : Setting) where
   epoch-in-range : (b : Bytes) (k e : ℕ) → k < shape .m → SomeEntry (decode shape b) k e → isEpoch e ≡ true
   epoch-in-range b k e h x = intact-for (index (firstAt shape b (x .from)) k) (part b (imageAt shape (x .from) + entryAt shape k) 240) e (x .there .payload) (sym (entry-means shape b (x .from) k h) ∙ x .there .is) .epoch
 
+  -- it is written for its own slot's index
+  record-stored : (b : Bytes) → length b ≡ imageAt shape (shape .n) → (c k e i : ℕ) → c < shape .n → k < shape .m → isEpoch e ≡ true → i ≡ index (firstAt shape b c) k
+      → Means (spliced b (imageAt shape c + recordAt shape k) (recordBytes e i)) (put (decode shape b) c (setRecord (decode shape b c) k (good e)))
+  record-stored b size c k e i cn km g own =
+      let v = recordBytes e i in
+      record {
+        size = length-in-image shape b size c cn (recordAt shape k) v (omega (arith, length-record e i, record-fits shape (suc c) k km));
+        is = record-put shape b size c k v cn km (length-record e i)
+            ∙ ap (λ (x : Record). put (decode shape b) c (setRecord (decode shape b c) k x)) (ap (λ (j : ℕ). readRecord j v) (sym own) ∙ read-good i e g);
+      }
+
   module _ (low : leader < shape .n) where
     pub store-means : (b : Bytes) → length b ≡ imageAt shape (shape .n) → (s : Store) → ReadyPlan S (viewsOf S (decode shape b)) → Due S (decode shape b) s
         → Means (afterStoreBytes shape s b) (afterStore s (decode shape b))
     unfolding afterStoreBytes afterStore storeReplica storeSlot
     store-means b size (storeEntry c k d) r u =
-        let cn = due-target S (decode shape b) (storeEntry c k d) low r u .below in
+        let ct = due-target S (decode shape b) (storeEntry c k d) low r u in
+        let cn = ct .below in
         let km = due-slot S (decode shape b) (storeEntry c k d) u in
-        let dn = due-donor S (decode shape b) c k d low u in
+        let dt = due-donor S (decode shape b) c k d low r u in
+        let one : firstAt shape b c ≡ firstAt shape b d = target-first S b r c ct ∙ sym (target-first S b r d dt) in
         let v = part b (imageAt shape d + entryAt shape k) 240 in
-        let l : length v ≡ 240 = length-part b (imageAt shape d + entryAt shape k) 240 (omega (arith, image-fits shape (shape .n) d dn, entry-fits shape (suc d) k km)) in
+        let l : length v ≡ 240 = length-part b (imageAt shape d + entryAt shape k) 240 (omega (arith, image-fits shape (shape .n) d (dt .below), entry-fits shape (suc d) k km)) in
         record {
           size = length-in-image shape b size c cn (entryAt shape k) v (omega (arith, entry-fits shape (suc c) k km));
-          is = entry-put shape b size c k v cn km l ∙ ap (λ (x : Entry). put (decode shape b) c (setEntry (decode shape b c) k x)) (sym (entry-as shape b c d k km));
+          is = entry-put shape b size c k v cn km l ∙ ap (λ (x : Entry). put (decode shape b) c (setEntry (decode shape b c) k x)) (sym (entry-as shape b c d k one km));
         }
     store-means b size (storeRecord c k e) r u =
         let cn = due-target S (decode shape b) (storeRecord c k e) low r u .below in
         let km = due-slot S (decode shape b) (storeRecord c k e) u in
         let g = epoch-in-range b k e km (due-epoch S (decode shape b) c k e r u) in
-        let i = index (firstAt shape b c) k in
-        let v = recordBytes e i in
-        record {
-          size = length-in-image shape b size c cn (recordAt shape k) v (omega (arith, length-record e i, record-fits shape (suc c) k km));
-          is = record-put shape b size c k v cn km (length-record e i) ∙ ap (λ (x : Record). put (decode shape b) c (setRecord (decode shape b c) k x)) (read-good i e g);
-        }
+        record-stored b size c k e _ cn km g (unfold index in omega arith)
     store-means b size (storeBlank c k) r u =
         let cn = due-target S (decode shape b) (storeBlank c k) low r u .below in
         let km = due-slot S (decode shape b) (storeBlank c k) u in
@@ -76,6 +84,14 @@ module _ (S : Setting) where
 
     pub next-means : (b : Bytes) → length b ≡ imageAt shape (shape .n) → (s : Store) → next S (decode shape b) ≡ some s → Means (afterStoreBytes shape s b) (afterStore s (decode shape b))
     next-means b size s e = let d = due-facts S (decode shape b) s e in store-means b size s (d .plan) (d .is-due)
+
+    -- and no log begins elsewhere
+    pub next-first : (b : Bytes) → length b ≡ imageAt shape (shape .n) → (s : Store) → next S (decode shape b) ≡ some s → (c : ℕ) → firstAt shape (afterStoreBytes shape s b) c ≡ firstAt shape b c
+    next-first b size s e c =
+        first-means shape (afterStoreBytes shape s b) c
+        ∙ ap (λ (F : Cluster). firstIndex (F c .header)) (next-means b size s e .is)
+        ∙ ap firstIndex (stored-header s (decode shape b) c)
+        ∙ sym (first-means shape b c)
 
     pub steps-mean : (j : ℕ) (b : Bytes) → length b ≡ imageAt shape (shape .n) → Means (stepsBytes S j b) (steps S j (decode shape b))
     unfolding stepsBytes steps after nextIn

@@ -27,18 +27,18 @@ same-entry-bytes k a b = go (same a b) refl
     go false e = not-so (sameEntry (readEntry k a) (readEntry k b)) (λ h.
         same-false a b e (sym (write-read-entry k a) ∙ ap (writeEntry k) (same-entry (readEntry k a) (readEntry k b) h) ∙ write-read-entry k b))
 
-pub unlike-bytes : (S : Setting) (b : Bytes) (c : ℕ) → viewsIn S b c .length < S .shape .m
+pub unlike-bytes : (S : Setting) (b : Bytes) (c : ℕ) → firstAt (S .shape) b c ≡ firstAt (S .shape) b (S .leader) → viewsIn S b c .length < S .shape .m
     → unlike S (decode (S .shape) b) c
     ≡ not (same (part b (imageAt (S .shape) c + entryAt (S .shape) (viewsIn S b c .length)) 240) (part b (imageAt (S .shape) (S .leader) + entryAt (S .shape) (viewsIn S b c .length)) 240))
 unfolding unlike viewsIn
-unlike-bytes S b c h =
+unlike-bytes S b c one h =
     let k = viewsOf S (decode (S .shape) b) c .length in
-    rw (entry-means (S .shape) b c k h, entry-as (S .shape) b c (S .leader) k h)
+    rw (entry-means (S .shape) b c k h, entry-as (S .shape) b c (S .leader) k one h)
     (ap not (same-entry-bytes (index (firstAt (S .shape) b c) k) (part b (imageAt (S .shape) c + entryAt (S .shape) k) 240) (part b (imageAt (S .shape) (S .leader) + entryAt (S .shape) k) 240)))
 
 -- the same, for the numbers that the code is given
-pub unlike-found : (S : Setting) (b : Bytes) (Z : Shape) (leader c k : ℕ) → S .shape ≡ Z → S .leader ≡ leader → k ≡ viewsIn S b c .length → k < Z .m
+pub unlike-found : (S : Setting) (b : Bytes) (Z : Shape) (leader c k : ℕ) → S .shape ≡ Z → S .leader ≡ leader → firstAt (S .shape) b c ≡ firstAt (S .shape) b (S .leader) → k ≡ viewsIn S b c .length → k < Z .m
     → unlike S (decode (S .shape) b) c ≡ not (same (part b (imageAt Z c + entryAt Z k) 240) (part b (imageAt Z leader + entryAt Z k) 240))
-unlike-found S b Z leader c k ez el ek h =
+unlike-found S b Z leader c k ez el one ek h =
     let e : S .shape .m ≡ Z .m = ap (λ (Y : Shape). Y .m) ez in
-    rw (← ez, ← el, ek) (unlike-bytes S b c (omega (arith, e)))
+    rw (← ez, ← el, ek) (unlike-bytes S b c one (omega (arith, e)))

@@ -128,7 +128,7 @@ fn fill_verdicts(
     }
 }
 
-// Reads an image: its log's length, and into the lent buffers the epoch and the verdict of each slot.
+// Reads an image: its log's length and its first index, and into the lent buffers the epoch and the verdict of each slot.
 pub fn read_image(
     image: &[u8],
     shape: Shape,
@@ -159,7 +159,10 @@ pub fn read_image(
     let seen = view.epochs;
     fill_epochs(&seen, epochs);
     fill_verdicts(image, shape, first, &conditions, used, verdicts);
-    ReadAnswer::Length(used)
+    ReadAnswer::Log {
+        length: used,
+        first,
+    }
 }
 
 // Whether a slot, by its number, is there and whole.

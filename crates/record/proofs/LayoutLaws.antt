@@ -1,16 +1,20 @@
 -- Laws of the layout: lengths, where each column stands, and that what is written determines what it was written from.
 use Prim.Native.Nat.{ℕ, _+_, _^_, _<_, _≤_}
 use mathlib.Core.Path.{_≡_, refl, sym, _∙_, ap}
-use mathlib.Core.List.{_++_, append-assoc}
+use mathlib.Core.Bool.{Bool, true, false, cond, true≢false}
+use mathlib.Core.List.{[], _++_, append-assoc}
 use native.Mathlib.Omega.{arith}
+use lib.Dec.{eqb}
 use lib.ListN.{length, take, drop, length-append, length-replicate}
 use lib.Seq.{drop-at, take-at}
+use borrow.Author.Tests.{eq-eqb, ne-eqb}
 use Rattle.slices.specs.Parts.{Bytes, part}
 use Rattle.slices.proofs.PartLaws.{part-middle}
 use Rattle.column.specs.Column.{column, valueOf}
 use Rattle.column.proofs.ColumnLaws.{length-column, value-column, column-injective}
 use Rattle.record.specs.declared.Shape.{Shape}
-use Rattle.record.specs.Layout.{headerSize, sealed, fixedWord, headerBytes, recordBytes, blankRecord, padded, entryBytes, freshEntry}
+use Rattle.record.specs.Claims.{WritableHeader}
+use Rattle.record.specs.Layout.{givesFirst, headerSize, firstColumn, sealed, fixedWord, headerBytes, recordBytes, blankRecord, padded, entryBytes, freshEntry}
 
 -- ---- lengths
 
@@ -18,13 +22,59 @@ pub length-sealed : (b : Bytes) → length (sealed b) ≡ length b + 12
 unfolding sealed
 length-sealed b = simp (length-append, length-column)
 
-pub header-size-is : (Z : Shape) → headerSize Z ≡ 28
+pub header-size-low : (Z : Shape) → 28 ≤ headerSize Z
 unfolding headerSize
-header-size-is Z = refl
+header-size-low Z = go (givesFirst Z)
+  where
+    go : (t : Bool) → 28 ≤ cond t 39 28
+    go true = omega arith
+    go false = omega arith
 
-pub length-header : (Z : Shape) (c : ℕ) → length (headerBytes Z c) ≡ headerSize Z
-unfolding headerBytes headerSize
-length-header Z c = simp (length-sealed, length-append, length-column)
+pub header-size-high : (Z : Shape) → headerSize Z ≤ 39
+unfolding headerSize
+header-size-high Z = go (givesFirst Z)
+  where
+    go : (t : Bool) → cond t 39 28 ≤ 39
+    go true = omega arith
+    go false = omega arith
+
+-- by its edition
+pub header-size-one : (Z : Shape) → givesFirst Z ≡ false → headerSize Z ≡ 28
+unfolding headerSize
+header-size-one Z h = rw h
+
+pub header-size-two : (Z : Shape) → givesFirst Z ≡ true → headerSize Z ≡ 39
+unfolding headerSize
+header-size-two Z h = rw h
+
+pub first-none : (Z : Shape) (first : ℕ) → givesFirst Z ≡ false → firstColumn Z first ≡ []
+unfolding firstColumn
+first-none Z first h = rw h
+
+pub first-there : (Z : Shape) (first : ℕ) → givesFirst Z ≡ true → firstColumn Z first ≡ column 11 first
+unfolding firstColumn
+first-there Z first h = rw h
+
+length-first : (Z : Shape) (first : ℕ) → 28 + length (firstColumn Z first) ≡ headerSize Z
+unfolding firstColumn headerSize
+length-first Z first = go (givesFirst Z)
+  where
+    go : (t : Bool) → 28 + length (cond t (column 11 first) []) ≡ cond t 39 28
+    go true = omega (arith, length-column 11 first)
+    go false = refl
+
+pub length-header : (Z : Shape) (c first : ℕ) → length (headerBytes Z c first) ≡ headerSize Z
+unfolding headerBytes
+length-header Z c first = simp (length-sealed, length-append, length-column) (omega (arith, length-first Z first))
+
+-- a shape of edition 2 gives its first index, and no other does
+pub gives-two : (Z : Shape) → Z .edition ≡ 2 → givesFirst Z ≡ true
+unfolding givesFirst
+gives-two Z h = eq-eqb (Z .edition) 2 h
+
+pub gives-other : (Z : Shape) → ¬ (Z .edition ≡ 2) → givesFirst Z ≡ false
+unfolding givesFirst
+gives-other Z h = ne-eqb (Z .edition) 2 h
 
 pub length-record : (e k : ℕ) → length (recordBytes e k) ≡ 34
 unfolding recordBytes
@@ -65,15 +115,26 @@ column-apart w x y r s hx hy e =
 
 -- ---- what is written determines what it was written from
 
-pub header-determined : (Z Y : Shape) (c d : ℕ) → c < 1000 → Z .n < 1000 → Z .m < 1000 → d < 1000 → Y .n < 1000 → Y .m < 1000
-    → headerBytes Z c ≡ headerBytes Y d → (c ≡ d) × (Z .n ≡ Y .n) × (Z .m ≡ Y .m)
-unfolding headerBytes sealed
-header-determined Z Y c d hc hn hm hd hn′ hm′ h =
-    let z = front-apart fixedWord _ fixedWord _ refl (simp append-assoc at h) in
-    let a = column-apart 3 1 1 _ _ (omega arith) (omega arith) (z .1) in
-    let b = column-apart 3 c d _ _ (omega arith) (omega arith) (a .1) in
-    let x = column-apart 3 (Z .n) (Y .n) _ _ (omega arith) (omega arith) (b .1) in
-    (b .0, x .0, column-apart 3 (Z .m) (Y .m) _ _ (omega arith) (omega arith) (x .1) .0)
+module _ (Z Y : Shape) (c d first first′ : ℕ) (a : WritableHeader Z c first) (b : WritableHeader Y d first′) where
+  first-apart : (t u : Bool) → t ≡ u → (r s : Bytes) → cond t (column 11 first) [] ++ r ≡ cond u (column 11 first′) [] ++ s → t ≡ true → first ≡ first′
+  first-apart true true e r s h k = column-apart 11 first first′ r s (a .first-fits) (b .first-fits) h .0
+  first-apart true false e r s h k = absurd (true≢false e)
+  first-apart false u e r s h k = absurd (true≢false (sym k))
+
+  alike : Z .edition ≡ Y .edition → givesFirst Z ≡ givesFirst Y
+  unfolding givesFirst
+  alike e = ap (λ (q : ℕ). eqb q 2) e
+
+  pub header-determined : headerBytes Z c first ≡ headerBytes Y d first′
+      → (Z .edition ≡ Y .edition) × (c ≡ d) × (Z .n ≡ Y .n) × (Z .m ≡ Y .m) × (givesFirst Z ≡ true → first ≡ first′)
+  unfolding headerBytes sealed firstColumn
+  header-determined h =
+      let z = front-apart fixedWord _ fixedWord _ refl (simp append-assoc at h) in
+      let e = column-apart 3 (Z .edition) (Y .edition) _ _ (a .edition-fits) (b .edition-fits) (z .1) in
+      let x = column-apart 3 c d _ _ (a .replica-fits) (b .replica-fits) (e .1) in
+      let y = column-apart 3 (Z .n) (Y .n) _ _ (a .replicas-fit) (b .replicas-fit) (x .1) in
+      let w = column-apart 3 (Z .m) (Y .m) _ _ (a .slots-fit) (b .slots-fit) (y .1) in
+      (e .0, x .0, y .0, w .0, first-apart (givesFirst Z) (givesFirst Y) (alike (e .0)) _ _ (w .1))
 
 pub record-determined : (e k e′ k′ : ℕ) → e < 10 ^ 11 → k < 10 ^ 11 → e′ < 10 ^ 11 → k′ < 10 ^ 11
     → recordBytes e k ≡ recordBytes e′ k′ → (e ≡ e′) × (k ≡ k′)

@@ -6,5 +6,6 @@ pub mod EntryLaws
 pub mod ChangedEntry
 pub mod WriteLaws
 pub mod JudgeLaws
+pub mod HeaderJudgeLaws
 pub mod RecordJudgeLaws
 pub mod EntryJudgeLaws

@@ -1,7 +1,8 @@
 -- A buffer that is written from the front, part after part, holds what the writer's definition says.
 use Prim.Native.Nat.{ℕ, zero, suc, _+_, _-_, _≤_}
 use mathlib.Core.Path.{_≡_, refl, sym, _∙_, ap}
-use mathlib.Core.List.{[], _++_, append-assoc}
+use mathlib.Core.Bool.{true, false}
+use mathlib.Core.List.{[], _++_, append-assoc, append-nil}
 use native.Mathlib.Omega.{arith}
 use native.Mathlib.Nat.{sub-zero}
 use lib.ListN.{length, take, drop, set, replicate, length-append, length-replicate, take-append-drop}
@@ -12,9 +13,9 @@ use Rattle.checksum.specs.Checksum.{checksumOf}
 use Rattle.column.specs.Column.{column}
 use Rattle.column.proofs.ColumnLaws.{length-column}
 use Rattle.record.specs.declared.Shape.{Shape}
-use Rattle.record.specs.Layout.{headerSize, sealed, fixedWord, headerBytes, recordBytes, blankRecord, padded, entryBytes, freshEntry}
-use Rattle.record.specs.Seal.{sealOf}
-use Rattle.record.proofs.LayoutLaws.{length-sealed}
+use Rattle.record.specs.Layout.{givesFirst, headerSize, sealed, fixedWord, headerBytes, recordBytes, blankRecord, padded, entryBytes, freshEntry}
+use Rattle.record.specs.Seal.{headerFront, sealOf}
+use Rattle.record.proofs.LayoutLaws.{length-sealed, header-size-one, header-size-two, first-none, first-there}
 use Rattle.record.proofs.JudgeLaws.{length-seal, sealed-is}
 
 -- s begins with x
@@ -85,6 +86,49 @@ drop-spaces zero n = rw sub-zero
 drop-spaces (suc k) zero = let z : zero - suc k ≡ 0 = omega arith in rw z
 drop-spaces (suc k) (suc n) = let z : suc n - suc k ≡ n - k = omega arith in rw z (drop-spaces k n)
 
+length-front : (Z : Shape) (c : ℕ) → length (headerFront Z c) ≡ 16
+unfolding headerFront
+length-front Z c =
+    let le = length-column 3 (Z .edition) in
+    let lc = length-column 3 c in
+    let ln = length-column 3 (Z .n) in
+    let lm = length-column 3 (Z .m) in
+    simp length-append (omega arith)
+
+front-then : (Z : Shape) (c : ℕ) (t : Bytes)
+    → headerFront Z c ++ t ≡ fixedWord ++ (column 3 (Z .edition) ++ (column 3 c ++ (column 3 (Z .n) ++ (column 3 (Z .m) ++ t))))
+unfolding headerFront
+front-then Z c t = simp append-assoc
+
+front-none : (Z : Shape) (c : ℕ) → headerFront Z c ≡ fixedWord ++ (column 3 (Z .edition) ++ (column 3 c ++ (column 3 (Z .n) ++ (column 3 (Z .m) ++ []))))
+front-none Z c = sym (append-nil (headerFront Z c)) ∙ front-then Z c []
+
+-- what follows the front of a header: the seal
+module _ (Z : Shape) (c first : ℕ) (s : Bytes) where
+  begun : length s ≡ headerSize Z → take 16 s ≡ headerFront Z c → Written (headerFront Z c) (headerSize Z) s
+  begun l front = record { begins = rw (length-front Z c) front; sized = l }
+
+  pub header-written : {a : ℕ} {s₆ : Bytes} → givesFirst Z ≡ false → a ≡ 16 → s₆ ≡ spliced s a (sealOf (take a s)) → take 16 s ≡ headerFront Z c
+      → length s ≡ headerSize Z → s₆ ≡ headerBytes Z c first
+  unfolding headerBytes
+  header-written {a} e q h front l =
+      let z = header-size-one Z e in
+      let x = closed (headerSize Z) a (begun l front) (length-front Z c ∙ sym q) (omega arith) h in
+      whole x (length-sealed (headerFront Z c) ∙ omega (arith, length-front Z c)) ∙ ap sealed (rw (first-none Z first e) (front-none Z c))
+
+  -- or the first index and the seal
+  pub first-written : {a b f : ℕ} (s₆ : Bytes) {s₇ : Bytes} → givesFirst Z ≡ true → a ≡ 16 → f ≡ first → b ≡ 27 → s₆ ≡ spliced s a (column 11 f)
+      → s₇ ≡ spliced s₆ b (sealOf (take b s₆)) → take 16 s ≡ headerFront Z c → length s ≡ headerSize Z → s₇ ≡ headerBytes Z c first
+  unfolding headerBytes
+  first-written {a} {b} {f} s₆ e qa qf qb h₆ h₇ front l =
+      let z = header-size-two Z e in
+      let lf = length-column 11 f in
+      let x = then (headerSize Z) a (column 11 f) (begun l front) (length-front Z c ∙ sym qa) (omega arith) h₆ in
+      let l₆ : length (headerFront Z c ++ column 11 f) ≡ b = simp length-append (omega (arith, length-front Z c)) in
+      let y = closed (headerSize Z) b x l₆ (omega arith) h₇ in
+      whole y (length-sealed (headerFront Z c ++ column 11 f) ∙ omega arith)
+      ∙ ap sealed (rw (first-there Z first e, qf) (front-then Z c (column 11 first)))
+
 module _ (s₀ : Bytes) where
   pub record-written : (e k : ℕ) (s₁ s₂ s₃ : Bytes) → length s₀ ≡ 34 → s₁ ≡ spliced s₀ 0 (column 11 e) → s₂ ≡ spliced s₁ 11 (column 11 k)
       → s₃ ≡ spliced s₂ 22 (sealOf (take 22 s₂)) → s₃ ≡ recordBytes e k
@@ -98,24 +142,24 @@ module _ (s₀ : Bytes) where
       let w₃ = closed 34 22 w₂ l (omega arith) h₃ in
       whole w₃ (length-sealed (column 11 e ++ column 11 k) ∙ omega arith)
 
-  pub header-written : (Z : Shape) (c : ℕ) (s₁ s₂ s₃ s₄ s₅ s₆ : Bytes) → length s₀ ≡ headerSize Z → s₁ ≡ spliced s₀ 0 fixedWord → s₂ ≡ spliced s₁ 4 (column 3 1)
-      → s₃ ≡ spliced s₂ 7 (column 3 c) → s₄ ≡ spliced s₃ 10 (column 3 (Z .n)) → s₅ ≡ spliced s₄ 13 (column 3 (Z .m))
-      → s₆ ≡ spliced s₅ 16 (sealOf (take 16 s₅)) → s₆ ≡ headerBytes Z c
-  unfolding headerBytes headerSize
-  header-written Z c s₁ s₂ s₃ s₄ s₅ s₆ h h₁ h₂ h₃ h₄ h₅ h₆ =
-      let l1 = length-column 3 1 in
-      let lc = length-column 3 c in
-      let ln = length-column 3 (Z .n) in
-      let lm = length-column 3 (Z .m) in
-      let w₁ = then 28 0 fixedWord (start 28 s₀ h) refl (omega arith) h₁ in
-      let w₂ = then 28 4 (column 3 1) w₁ refl (omega arith) h₂ in
-      let w₃ = then 28 7 (column 3 c) w₂ (simp length-append (omega arith)) (omega arith) h₃ in
-      let w₄ = then 28 10 (column 3 (Z .n)) w₃ (simp length-append (omega arith)) (omega arith) h₄ in
-      let w₅ = then 28 13 (column 3 (Z .m)) w₄ (simp length-append (omega arith)) (omega arith) h₅ in
-      let all : ((((fixedWord ++ column 3 1) ++ column 3 c) ++ column 3 (Z .n)) ++ column 3 (Z .m)) ≡ fixedWord ++ (column 3 1 ++ (column 3 c ++ (column 3 (Z .n) ++ column 3 (Z .m)))) = simp append-assoc in
-      let l : length (((((fixedWord ++ column 3 1) ++ column 3 c) ++ column 3 (Z .n)) ++ column 3 (Z .m))) ≡ 16 = simp length-append (omega arith) in
-      let w₆ = closed 28 16 w₅ l (omega arith) h₆ in
-      whole w₆ (length-sealed _ ∙ omega arith) ∙ ap sealed all
+  -- the front of a header, of numbers that are the shape's and the replica's
+  pub front-written : (Z : Shape) (c : ℕ) {e d n m : ℕ} (s₁ s₂ s₃ s₄ s₅ : Bytes) → 16 ≤ length s₀ → e ≡ Z .edition → d ≡ c → n ≡ Z .n → m ≡ Z .m
+      → s₁ ≡ spliced s₀ 0 fixedWord → s₂ ≡ spliced s₁ 4 (column 3 e) → s₃ ≡ spliced s₂ 7 (column 3 d) → s₄ ≡ spliced s₃ 10 (column 3 n)
+      → s₅ ≡ spliced s₄ 13 (column 3 m) → take 16 s₅ ≡ headerFront Z c
+  unfolding headerFront
+  front-written Z c {e} {d} {n} {m} s₁ s₂ s₃ s₄ s₅ g qe qd qn qm h₁ h₂ h₃ h₄ h₅ =
+      let size = length s₀ in
+      let le = length-column 3 e in
+      let lc = length-column 3 d in
+      let ln = length-column 3 n in
+      let lm = length-column 3 m in
+      let w₁ = then size 0 fixedWord (start size s₀ refl) refl (omega arith) h₁ in
+      let w₂ = then size 4 (column 3 e) w₁ refl (omega arith) h₂ in
+      let w₃ = then size 7 (column 3 d) w₂ (simp length-append (omega arith)) (omega arith) h₃ in
+      let w₄ = then size 10 (column 3 n) w₃ (simp length-append (omega arith)) (omega arith) h₄ in
+      let w₅ = then size 13 (column 3 m) w₄ (simp length-append (omega arith)) (omega arith) h₅ in
+      let l : length ((((fixedWord ++ column 3 e) ++ column 3 d) ++ column 3 n) ++ column 3 m) ≡ 16 = simp length-append (omega arith) in
+      (rw l at (w₅ .begins)) ∙ rw (qe, qd, qn, qm)
 
   pub entry-written : (e k : ℕ) (p : Bytes) (s₁ s₂ s₃ s₄ s₅ s₆ : Bytes) → length s₀ ≡ 240 → length p ≤ 200 → s₁ ≡ replicate (length s₀) 32
       → s₂ ≡ spliced s₁ 0 (column 11 e) → s₃ ≡ spliced s₂ 11 (column 11 k) → s₄ ≡ spliced s₃ 22 (column 4 (length p)) → s₅ ≡ spliced s₄ 26 p

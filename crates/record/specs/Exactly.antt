@@ -6,7 +6,17 @@ use lib.ListN.{length}
 use Rattle.slices.specs.Parts.{Bytes}
 use Rattle.record.specs.declared.Shape.{Shape}
 use Rattle.record.specs.Layout.{headerBytes, recordBytes, blankRecord, entryBytes}
-use Rattle.record.specs.Meaning.{Header, proper, improper, Record, good, blank, bad, Entry, intact, broken, isEpoch}
+use Rattle.record.specs.Meaning.{Header, proper, improper, isFirst, Record, good, blank, bad, Entry, intact, broken, isEpoch}
+
+-- 01's head: the writer writes it for this shape, this replica and a first index
+pub record HeaderFor (Z : Shape) (c first : ℕ) (b : Bytes) : Type 0 where
+  pub first-index : isFirst Z first ≡ true
+  pub bytes : b ≡ headerBytes Z c first
+
+-- for some first index
+pub record SomeHeader (Z : Shape) (c : ℕ) (b : Bytes) : Type 0 where
+  pub first : ℕ
+  pub is : HeaderFor Z c first b
 
 -- 01's good line: the writer writes it for that index and an epoch
 pub record GoodFor (k e : ℕ) (b : Bytes) : Type 0 where
@@ -26,8 +36,8 @@ pub record IntactFor (k e : ℕ) (p b : Bytes) : Type 0 where
 
 -- what each meaning says of the bytes: a reader gives a meaning exactly if this holds of it
 abbrev pub HeaderIs : Shape → ℕ → Bytes → Header → Type 0
-HeaderIs Z c b proper = b ≡ headerBytes Z c
-HeaderIs Z c b (improper z) = (z ≡ b) × ¬ (b ≡ headerBytes Z c)
+HeaderIs Z c b (proper first) = HeaderFor Z c first b
+HeaderIs Z c b (improper z) = (z ≡ b) × ((first : ℕ) → ¬ (HeaderFor Z c first b))
 
 abbrev pub RecordIs : ℕ → Bytes → Record → Type 0
 RecordIs k b (good e) = GoodFor k e b

@@ -1,6 +1,6 @@
 -- What the judges answer.
 use lib.ListN.{length}
-use Rattle.record.specs.Meaning.{Header, proper, improper, firstIndex, Record, good, blank, bad, Entry, intact, broken}
+use Rattle.record.specs.Meaning.{Header, proper, improper, Record, good, blank, bad, Entry, intact, broken}
 use Rattle.record.specs.declared.HeaderState.{HeaderState}
 use Rattle.record.specs.declared.HeaderState.the-variants.{Proper, Improper}
 use Rattle.record.specs.declared.RecordState.{RecordState}
@@ -10,7 +10,7 @@ use Rattle.record.specs.declared.EntryState.the-variants.{Intact, Broken
 
 -- a header's meaning as the judge answers it: the writer's, by the first index that it gives, or not
 unfoldable pub headerAnswer : Header → HeaderState
-headerAnswer proper = Proper (firstIndex proper)
+headerAnswer (proper first) = Proper first
 headerAnswer (improper b) = Improper
 
 -- a record's

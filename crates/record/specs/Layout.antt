@@ -1,19 +1,21 @@
 -- Document 01, "The card image": what the writer writes.
 use Prim.Native.Nat.{ℕ, _-_}
+use mathlib.Core.Bool.{Bool, cond}
 use mathlib.Core.List.{[], _∷_, _++_}
+use lib.Dec.{eqb}
 use lib.ListN.{length, replicate}
 use Rattle.slices.specs.Parts.{Bytes}
 use Rattle.checksum.specs.Checksum.{checksumOf}
 use Rattle.column.specs.Column.{column}
 use Rattle.record.specs.declared.Shape.{Shape}
 
--- a shape by its numbers
-abbrev pub shapeOf : ℕ → ℕ → Shape
-shapeOf n m = record { n = n; m = m }
+-- edition 2 gives the index of the first slot in its header (02, Six)
+unfoldable pub givesFirst : Shape → Bool
+givesFirst Z = eqb (Z .edition) 2
 
--- the sizes in bytes of 01's head, line and cell, and of the longest payload. A header's is that of a shape
+-- the sizes in bytes of 01's head, line and cell, and of the longest payload. A header's is its edition's
 unfoldable pub headerSize : Shape → ℕ
-headerSize Z = 28
+headerSize Z = cond (givesFirst Z) 39 28
 
 abbrev pub recordSize : ℕ
 recordSize = 34
@@ -32,9 +34,14 @@ sealed b = b ++ (column 11 (checksumOf b) ++ (10 ∷ []))
 abbrev pub fixedWord : Bytes
 fixedWord = 114 ∷ 111 ∷ 112 ∷ 101 ∷ []
 
--- 01's head: `rope`, edition 1, replica c, n, m
-unfoldable pub headerBytes : Shape → ℕ → Bytes
-headerBytes Z c = sealed (fixedWord ++ (column 3 1 ++ (column 3 c ++ (column 3 (Z .n) ++ column 3 (Z .m)))))
+-- 02's column of the first index, in edition 2 alone
+unfoldable pub firstColumn : Shape → ℕ → Bytes
+firstColumn Z first = cond (givesFirst Z) (column 11 first) []
+
+-- 01's head: `rope`, the edition, replica c, n, m, and the first index where the edition gives it
+unfoldable pub headerBytes : Shape → ℕ → ℕ → Bytes
+headerBytes Z c first =
+    sealed (fixedWord ++ (column 3 (Z .edition) ++ (column 3 c ++ (column 3 (Z .n) ++ (column 3 (Z .m) ++ firstColumn Z first)))))
 
 -- 01's line, of an epoch and an index
 unfoldable pub recordBytes : ℕ → ℕ → Bytes

@@ -1,17 +1,17 @@
 -- What a header, a record or an entry means. Bytes that mean nothing are kept, so that the writer gives every byte back.
-use Prim.Native.Nat.{ℕ}
-use mathlib.Core.Bool.{Bool, cond, _&&_}
-use lib.Dec.{leb}
+use Prim.Native.Nat.{ℕ, _+_, _-_}
+use mathlib.Core.Bool.{Bool, cond, _&&_, _||_}
+use lib.Dec.{eqb, leb}
 use lib.ListN.{length}
 use Rattle.slices.specs.Parts.{Bytes, part}
 use Rattle.slices.specs.Same.{same}
 use Rattle.column.specs.Column.{valueOf}
 use Rattle.record.specs.declared.Shape.{Shape}
-use Rattle.record.specs.Layout.{headerBytes, recordBytes, blankRecord, entryBytes}
+use Rattle.record.specs.Layout.{givesFirst, headerBytes, recordBytes, blankRecord, entryBytes}
 
--- 01's head: the writer's for this shape and replica, or other bytes
+-- 01's head: the writer's for this shape and replica, with the index of the first slot; or other bytes
 pub data Header : Type 0 where
-  proper : Header
+  proper : ℕ → Header
   improper : Bytes → Header
 
 -- 01's line: good with its epoch, blank, or bad
@@ -29,19 +29,30 @@ pub data Entry : Type 0 where
 unfoldable pub isEpoch : ℕ → Bool
 isEpoch e = leb 1 e && leb e 4294967295
 
--- the index of the first slot, as the header gives it: logs begin at 1. Bytes that are no header give none, and count as giving 1
+-- the index of the first slot. Bytes that are no header give none, and count as giving 1: such an image is refused all the same
 unfoldable pub firstIndex : Header → ℕ
-firstIndex proper = 1
+firstIndex (proper first) = first
 firstIndex (improper b) = 1
 
+-- a first index (02, Six): in edition 1 no other than 1; in edition 2 not 0, and the last slot's index at most 4,294,967,295
+unfoldable pub isFirst : Shape → ℕ → Bool
+isFirst Z first = cond (givesFirst Z) (leb 1 first && leb (first + (Z .m - 1)) 4294967295) (eqb first 1)
+
+-- judged by writing: the only first index that the bytes could mean, which is 1 in edition 1, and what the writer writes for it
+unfoldable pub headerFirst : Shape → Bytes → ℕ
+headerFirst Z b = cond (givesFirst Z) (valueOf (part b 16 11)) 1
+
+unfoldable pub isHeader : Shape → ℕ → ℕ → Bytes → Bool
+isHeader Z c first b = isFirst Z first && same b (headerBytes Z c first)
+
 unfoldable pub readHeader : Shape → ℕ → Bytes → Header
-readHeader Z c b = cond (same b (headerBytes Z c)) proper (improper b)
+readHeader Z c b = cond (isHeader Z c (headerFirst Z b) b) (proper (headerFirst Z b)) (improper b)
 
 unfoldable pub writeHeader : Shape → ℕ → Header → Bytes
-writeHeader Z c proper = headerBytes Z c
+writeHeader Z c (proper first) = headerBytes Z c first
 writeHeader Z c (improper b) = b
 
--- judged by writing: the only epoch that the columns could mean, and what the writer writes for it
+-- the same: the only epoch that the columns could mean, and what the writer writes for it
 unfoldable pub isGood : ℕ → ℕ → Bytes → Bool
 isGood k e b = isEpoch e && same b (recordBytes e k)
 

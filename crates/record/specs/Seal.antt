@@ -1,4 +1,4 @@
--- For proofs only. The tests that the judges are made of.
+-- For proofs only. What the writers and the judges are made of.
 use Prim.Native.Nat.{ℕ}
 use mathlib.Core.Bool.{Bool, _&&_}
 use mathlib.Core.List.{[], _∷_, _++_}
@@ -6,7 +6,13 @@ use Rattle.slices.specs.Parts.{Bytes, part}
 use Rattle.slices.specs.Same.{same}
 use Rattle.checksum.specs.Checksum.{checksumOf}
 use Rattle.column.specs.Column.{column}
+use Rattle.record.specs.declared.Shape.{Shape}
+use Rattle.record.specs.Layout.{fixedWord}
 use Rattle.record.specs.Meaning.{isEpoch}
+
+-- the 16 bytes of a header before its first index, or before its seal where it gives none
+unfoldable pub headerFront : Shape → ℕ → Bytes
+headerFront Z c = (((fixedWord ++ column 3 (Z .edition)) ++ column 3 c) ++ column 3 (Z .n)) ++ column 3 (Z .m)
 
 -- what follows the bytes b in their header, record or entry: the checksum and a newline
 unfoldable pub sealOf : Bytes → Bytes

@@ -1,10 +1,12 @@
 // Headers, records and entries: definitions and laws. The code is `write`'s and `judge`'s.
-ghost use Rattle.record.specs.Claims.{Exact, RoundTrip, ChangedPayload};
+ghost use Rattle.record.specs.Claims.{Exact, EditionOne, RoundTrip, ChangedPayload};
 
-// What a call names of its cluster: n replicas of m slots each.
+// What a call names of its cluster: n replicas of m slots each, all of one edition. A header of edition 2 gives the index of the first slot.
+#[repr(C)]
 pub struct Shape {
     pub n: usize,
     pub m: usize,
+    pub edition: usize,
 }
 
 // What a header is found to be: the writer's, with the index of the first slot, or not.
@@ -29,6 +31,11 @@ pub enum EntryState {
 // The judges say exactly what document 01 says.
 pub fn exact_claim()
     ensures { λ _. ⌜ Exact ⌝ }
+{}
+
+// Edition 1 is as document 01 has it.
+pub fn edition_one_claim()
+    ensures { λ _. ⌜ EditionOne ⌝ }
 {}
 
 // What is written is read back, and determines what it was written from.

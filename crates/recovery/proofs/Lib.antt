@@ -5,6 +5,7 @@ pub mod LookLaws
 pub mod LeaderStoreLaws
 pub mod FollowerStoreLaws
 pub mod FollowerLaws
+pub mod BeginsLaws
 pub mod OutlookLaws
 pub mod OutcomeLaws
 pub mod Underway

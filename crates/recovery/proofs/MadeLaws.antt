@@ -1,6 +1,6 @@
 -- A store that is made is the one that the enum names.
 use Prim.Native.Nat.{ℕ, suc, _+_}
-use mathlib.Core.Path.{_≡_, refl}
+use mathlib.Core.Path.{_≡_, refl, ap}
 use mathlib.Core.Bool.{true, false}
 use mathlib.Core.List.{[], _∷_}
 use mathlib.Core.Option.{Option, none, some}
@@ -11,11 +11,11 @@ use Rattle.slices.specs.Parts.{Bytes, part, spliced}
 use Rattle.record.specs.declared.Shape.{Shape}
 use Rattle.record.specs.Layout.{entrySize, recordBytes, blankRecord}
 use Rattle.image.specs.Image.{index, recordAt, entryAt}
-use Rattle.image.specs.Cluster.{imageAt, firstAt}
-use Rattle.protocol.specs.Store.{Store}
+use Rattle.image.specs.Cluster.{imageAt}
+use Rattle.protocol.specs.Store.{Store, storeRecord, storeReplica}
 use Rattle.protocol.specs.Recovery.{after, isSome}
 use Rattle.protocol.specs.StepBytes.{afterStoreBytes}
-use Rattle.recovery.specs.NextStore.{storeOf}
+use Rattle.recovery.specs.NextStore.{storeOf, BeginsAt}
 use Rattle.recovery.specs.declared.NextStore.{NextStore}
 use Rattle.recovery.specs.declared.NextStore.the-variants.{Nothing, Entry, Record, Blank}
 use Rattle.recovery.proofs.NextStore.{the-type}
@@ -31,10 +31,11 @@ module _ (Z : Shape) (b : Bytes) where
   unfolding after afterStoreBytes
   entry-made e to from i j h = rw (e, ← i, ← j) h
 
-  pub record-made : {s : NextStore} {c k e : ℕ} {a : Bytes} → s ≡ Record c k e → a ≡ spliced b (imageAt Z c + recordAt Z k) (recordBytes e (index (firstAt Z b c) k))
-      → a ≡ after (storeOf s) b (λ t. afterStoreBytes Z t b)
-  unfolding after afterStoreBytes
-  record-made e h = rw e h
+  -- written for an index that counts from where the log begins
+  pub record-made : {s : NextStore} {c k e first : ℕ} {a : Bytes} → s ≡ Record c k e → BeginsAt Z b s first
+      → a ≡ spliced b (imageAt Z c + recordAt Z k) (recordBytes e (index first k)) → a ≡ after (storeOf s) b (λ t. afterStoreBytes Z t b)
+  unfolding after afterStoreBytes storeReplica
+  record-made {c = c} {k = k} {e = f} i g h = let q = g (storeRecord c k f) (ap storeOf i) in rw (i, q) h
 
   pub blank-made : {s : NextStore} {c k : ℕ} {a : Bytes} → s ≡ Blank c k → a ≡ spliced b (imageAt Z c + recordAt Z k) blankRecord
       → a ≡ after (storeOf s) b (λ t. afterStoreBytes Z t b)

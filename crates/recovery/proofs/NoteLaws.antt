@@ -15,6 +15,7 @@ use Rattle.planner.specs.Setting.{Setting}
 use Rattle.planner.specs.Survey.{SurveyOf}
 use Rattle.planner.specs.declared.Survey.{Survey}
 use Rattle.protocol.specs.Store.{storeEntry, storeRecord, storeBlank, storeReplica, storeSlot}
+use Rattle.protocol.proofs.ReadyPlan.{firsts-same}
 use Rattle.recovery.specs.Note.{withSlot, seenAfter, viewsAfter, SlotSet, Noted}
 
 module _ (S : Setting) (W : ℕ → View) (c k l : ℕ) (a : Condition) (e : ℕ) where
@@ -25,8 +26,12 @@ module _ (S : Setting) (W : ℕ → View) (c k l : ℕ) (a : Condition) (e : ℕ
   unfolding withSlot
   readable-kept d = put-case (λ (v : View). v .readable ≡ W d .readable) W c (withSlot (W c) k l a e) d (λ q. rw q) (λ q. refl)
 
+  first-kept : (d : ℕ) → U d .first ≡ W d .first
+  unfolding withSlot
+  first-kept d = put-case (λ (v : View). v .first ≡ W d .first) W c (withSlot (W c) k l a e) d (λ q. rw q) (λ q. refl)
+
   module _ (n leader : ℕ) (s r : Survey) (t : SlotSet s r c k l (conditionNumber a) e) (cn : c < n) (km : k < S .shape .m) (on : W c .readable ≡ true) (lm : l ≤ S .shape .m)
-      (f : SurveyOf S W n leader (s .readable) (s .lengths) (s .conditions) (s .epochs)) where
+      (f : SurveyOf S W n leader (s .readable) (s .firsts) (s .lengths) (s .conditions) (s .epochs)) where
     length-set : (d : ℕ) → d < n → U d .readable ≡ true → getD (r .lengths) d 0 ≡ U d .length
     unfolding withSlot
     length-set d h ok =
@@ -52,7 +57,7 @@ module _ (S : Setting) (W : ℕ → View) (c k l : ℕ) (a : Condition) (e : ℕ
         (λ p. getD-set-other (s .epochs) (c * 64 + k) (c * 64 + j) e 0 (λ z. p (omega arith)) ∙ f .surveyed .epoch-is c j cn b on)))
         (λ q. getD-set-other (s .epochs) (c * 64 + k) (d * 64 + j) e 0 (λ z. q (omega (arith, f .slots-fit))) ∙ f .surveyed .epoch-is d j h b (sym (readable-kept d) ∙ ok)))
 
-    pub slot-set : SurveyOf S U n leader (r .readable) (r .lengths) (r .conditions) (r .epochs)
+    pub slot-set : SurveyOf S U n leader (r .readable) (r .firsts) (r .lengths) (r .conditions) (r .epochs)
     unfolding withSlot
     slot-set = record {
       n-is = f .n-is;
@@ -61,9 +66,11 @@ module _ (S : Setting) (W : ℕ → View) (c k l : ℕ) (a : Condition) (e : ℕ
       leader-below = f .leader-below;
       slots-fit = f .slots-fit;
       leader-reads = readable-kept leader ∙ f .leader-reads;
+      same-firsts = firsts-same S W U readable-kept first-kept ∙ f .same-firsts;
       logs-fit = λ d. put-case (λ (v : View). v .length ≤ S .shape .m) W c (withSlot (W c) k l a e) d (λ q. lm) (λ q. f .logs-fit d);
       surveyed = record {
         readable-is = λ d h. rw (t .readables) (f .surveyed .readable-is d h) ∙ sym (readable-kept d);
+        first-is = λ d h ok. rw (t .firsts) (f .surveyed .first-is d h (sym (readable-kept d) ∙ ok)) ∙ sym (first-kept d);
         length-is = length-set;
         condition-is = condition-set;
         epoch-is = epoch-set;
@@ -82,7 +89,7 @@ unfolding viewsAfter seenAfter storeReplica storeSlot
 noted-entry s c k h d S W n leader cn km ok f =
     let i = f .surveyed .length-is c cn ok in
     let z : put W c (cond (ltb k (W c .length)) (withSlot (W c) k (W c .length) Whole (W c .epoch k)) (W c)) ≡ W = rw (le-ltb k (W c .length) (omega arith)) (put-back W c) in
-    subst (λ (X : ℕ → View). SurveyOf S X n leader (s .readable) (s .lengths) (s .conditions) (s .epochs)) (sym z) f
+    subst (λ (X : ℕ → View). SurveyOf S X n leader (s .readable) (s .firsts) (s .lengths) (s .conditions) (s .epochs)) (sym z) f
 
 module _ (s r : Survey) (c k : ℕ) where
   pub noted-blank : {x : ℕ} → SlotSet s r c k k x 0 → x ≡ conditionNumber Unused → Noted (storeBlank c k) s r

@@ -20,8 +20,8 @@ use Rattle.protocol.specs.StepBytes.{afterStoreBytes, nextIn, stepsBytes, store
 use Rattle.protocol.specs.Call.{step, run, Numbers, named, refusalIn}
 use Rattle.protocol.specs.CallResult.{Result, refused, waiting, stored, recovered, stepResult, runResult, countOf, callResult, callBytes}
 use Rattle.image.specs.Fits.{ImageFits}
-use Rattle.recovery.specs.NextStore.{storeOf, StoreFits}
-use Rattle.recovery.specs.OutlookIs.{OutlookIs}
+use Rattle.recovery.specs.NextStore.{storeOf, StoreFits, BeginsAt}
+use Rattle.recovery.specs.OutlookIs.{ReadyIs, OutlookIs}
 use Rattle.recovery.specs.Answers.{counted}
 use Rattle.recovery.specs.declared.NextStore.{NextStore}
 use Rattle.recovery.specs.declared.NextStore.the-variants.{Nothing, Entry, Record, Blank}
@@ -57,7 +57,7 @@ module _ (N : Numbers) (b : Bytes) (e : refusalIn N b ≡ 0) where
       let low = accepted N b e .low in (
         due-slot (named N) F (storeEntry c k d) (u .is-due),
         within c (due-target (named N) F (storeEntry c k d) low (u .plan) (u .is-due) .below),
-        within d (due-donor (named N) F c k d low (u .is-due)),
+        within d (due-donor (named N) F c k d low (u .plan) (u .is-due) .below),
       )
   store-fits (Record c k f) x =
       let F = decode (named N .shape) b in
@@ -147,15 +147,22 @@ module _ (N : Numbers) (b : Bytes) where
     pub waiting-run-bytes : (j : ℕ) → b ≡ callBytes N (run j) b
     waiting-run-bytes j = sym (still-waiting N b (at .0) (pred k) (at .2) .bytes j)
 
-  module _ {o : Outlook} {s : NextStore} (q : o ≡ outlook.Ready s) (i : OutlookIs N b o) where
-    is : OutlookIs N b (outlook.Ready s)
-    is = rw q at i
+  module _ {o : Outlook} {s : NextStore} {first : ℕ} (q : o ≡ outlook.Ready s first) (i : OutlookIs N b o) where
+    told : OutlookIs N b (outlook.Ready s first)
+    told = rw q at i
+
+    is : ReadyIs N b s
+    is = told .0
 
     pub ready-accepts : refusalIn N b ≡ 0
     ready-accepts = is .0
 
     pub ready-next : storeOf s ≡ nextIn (named N) b
     ready-next = is .2
+
+    -- where the log begins that the store is made on
+    pub ready-begins : BeginsAt (N .shape) b s first
+    ready-begins = told .1
 
     pub ready-stepped : {r : Result} → r ≡ stepResult (storeOf s) → r ≡ callResult N step b
     ready-stepped h = h ∙ ap stepResult (is .2) ∙ sym (ready-step N b (is .0) _ (is .1))
@@ -164,6 +171,7 @@ module _ (N : Numbers) (b : Bytes) where
     unfolding stepsBytes settingOf
     ready-step-bytes h = h ∙ sym (step-bytes N b (is .0) ∙ ap (λ (x : Option Store). after x b (λ t. afterStoreBytes (N .shape) t b)) (sym (is .2)))
 
+  module _ (s : NextStore) (is : ReadyIs N b s) where
     pub ready-ran : {r : Result} (j : ℕ) → r ≡ runResult (storesBytes (named N) j b) (nextIn (named N) (stepsBytes (named N) j b)) → r ≡ callResult N (run j) b
     ready-ran j h = h ∙ sym (ready-run N b (is .0) _ (is .1) j)
 

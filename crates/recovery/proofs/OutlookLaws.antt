@@ -9,7 +9,7 @@ use borrow.Author.Tests.{lt-ltb, le-ltb}
 use Rattle.slices.specs.Parts.{Bytes}
 use Rattle.image.specs.Cluster.{decode}
 use Rattle.planner.specs.Setting.{settingOf}
-use Rattle.planner.specs.Rules.{Waiting, Ready, answer, end, firstWaiting}
+use Rattle.planner.specs.Rules.{Waiting, Ready, answer, end, firstWaiting, sameFirsts}
 use Rattle.planner.specs.Plan.{viewsIn}
 use Rattle.planner.specs.Survey.{SurveyIs, Planned}
 use Rattle.planner.specs.declared.Survey.{Survey}
@@ -18,11 +18,12 @@ use Rattle.protocol.specs.StepBytes.{nextIn}
 use Rattle.protocol.specs.Call.{Numbers, named, refusalIn}
 use Rattle.recovery.specs.NextStore.{storeOf}
 use Rattle.recovery.specs.Look.{InRange, Sees}
-use Rattle.recovery.specs.OutlookIs.{OutlookIs}
+use Rattle.recovery.specs.OutlookIs.{ReadyIs, OutlookIs}
 use Rattle.recovery.specs.declared.NextStore.{NextStore}
 use Rattle.recovery.specs.declared.Outlook.the-variants as outlook
 use Rattle.planner.proofs.RuleLaws.{end-le}
 use Rattle.protocol.proofs.CallLaws.{accepted}
+use Rattle.recovery.proofs.BeginsLaws.{begins-at}
 
 module _ (N : Numbers) (b : Bytes) (e : refusalIn N b ≡ 0) {leader : ℕ} {s : Survey} (v : SurveyIs (named N) (viewsIn (named N) b) (N .shape .n) leader s) where
   pub sees : Sees (named N) b (N .shape) leader s
@@ -57,6 +58,9 @@ module _ (N : Numbers) (b : Bytes) (e : refusalIn N b ≡ 0) {leader : ℕ} {s :
     leads : viewsIn (named N) b (named N .leader) .readable ≡ true
     leads = accepted N b e .readable
 
+    begins : sameFirsts (named N) (viewsIn (named N) b) ≡ true
+    begins = accepted N b e .firsts
+
     -- the slot by its number
     pub waits : {slot : ℕ} → waiting < final → slot ≡ suc waiting → OutlookIs N b (outlook.Waiting slot)
     unfolding answer
@@ -64,16 +68,22 @@ module _ (N : Numbers) (b : Bytes) (e : refusalIn N b ≡ 0) {leader : ℕ} {s :
         let a = p .end-is in
         let w = p .waiting-is in
         let q : pred slot ≡ waiting = omega arith in
-        (e, omega arith, rw (q, leads, lt-ltb (firstWaiting (named N) (viewsIn (named N) b)) (end (named N) (viewsIn (named N) b)) (omega arith)) (ap Waiting (sym w)))
+        (e, omega arith, rw (q, leads, begins, lt-ltb (firstWaiting (named N) (viewsIn (named N) b)) (end (named N) (viewsIn (named N) b)) (omega arith)) (ap Waiting (sym w)))
 
     is-ready : final ≤ waiting → answer (named N) (viewsIn (named N) b) ≡ Ready (end (named N) (viewsIn (named N) b))
     unfolding answer
     is-ready h =
         let a = p .end-is in
         let w = p .waiting-is in
-        rw (leads, le-ltb (firstWaiting (named N) (viewsIn (named N) b)) (end (named N) (viewsIn (named N) b)) (omega arith))
+        rw (leads, begins, le-ltb (firstWaiting (named N) (viewsIn (named N) b)) (end (named N) (viewsIn (named N) b)) (omega arith))
 
     pub readies : final ≤ waiting → (t : NextStore)
-        → storeOf t ≡ (leaderStore (named N) (viewsIn (named N) b) or followersStore (named N) (decode (named N .shape) b)) → OutlookIs N b (outlook.Ready t)
+        → storeOf t ≡ (leaderStore (named N) (viewsIn (named N) b) or followersStore (named N) (decode (named N .shape) b)) → ReadyIs N b t
     unfolding nextIn next ifReady viewsIn
     readies h t x = let r = is-ready h in (e, r, x ∙ rw r)
+
+    -- and with the leader's first index it is all that stands
+    pub stands-ready : final ≤ waiting → (t : NextStore)
+        → storeOf t ≡ (leaderStore (named N) (viewsIn (named N) b) or followersStore (named N) (decode (named N .shape) b))
+        → {first : ℕ} → first ≡ getD (s .firsts) leader 0 → OutlookIs N b (outlook.Ready t first)
+    stands-ready h t x q = let r = readies h t x in (r, begins-at N b e v t (r .2) q)

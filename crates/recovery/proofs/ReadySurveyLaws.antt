@@ -22,7 +22,7 @@ use Rattle.protocol.proofs.Keeps.{due-target, due-slot}
 use Rattle.protocol.proofs.PlanLaws.{ready-intro}
 use Rattle.protocol.proofs.StepLaws.{next-means}
 use Rattle.protocol.proofs.Runs.{step-law}
-use Rattle.protocol.proofs.CallLaws.{accepted, refusal-same}
+use Rattle.protocol.proofs.CallLaws.{accepted, refusal-kept}
 use Rattle.recovery.specs.Look.{RestBelow}
 use Rattle.recovery.specs.Note.{viewsAfter, Noted, ReadySurvey}
 use Rattle.recovery.proofs.OutcomeLaws.{slots-few}
@@ -89,7 +89,7 @@ module _ (N : Numbers) (b : Bytes) {leader : ℕ} {s : Survey} (v : ReadySurvey 
       accepts-next =
           let w = next-means S low b (accepted N b (v .accepts) .size) u is-next in
           let l : length a ≡ length b = rw y (w .size ∙ sym (accepted N b (v .accepts) .size)) in
-          refusal-same N a b l (ap (λ (G : Cluster). viewsOf S G (S .leader) .readable) means ∙ step-law S F u low is-next .readables (S .leader)) ∙ v .accepts
+          refusal-kept N a b l answer-next (v .accepts)
 
       ready-noted : {r : Survey} → Noted u s r → ReadySurvey N a leader r
       unfolding settingOf

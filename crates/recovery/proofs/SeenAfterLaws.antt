@@ -27,16 +27,16 @@ use Rattle.recovery.specs.Note.{withSlot, seenAfter, viewsAfter}
 
 -- ---- one slot changed
 
-with-slot : (a b : View) (k l : ℕ) (x : Condition) (e : ℕ) → b .readable ≡ a .readable → b .length ≡ l → b .condition k ≡ x → b .epoch k ≡ e
+with-slot : (a b : View) (k l : ℕ) (x : Condition) (e : ℕ) → b .readable ≡ a .readable → b .first ≡ a .first → b .length ≡ l → b .condition k ≡ x → b .epoch k ≡ e
     → ((j : ℕ) → (j ≡ k → ⊥) → b .condition j ≡ a .condition j) → ((j : ℕ) → (j ≡ k → ⊥) → b .epoch j ≡ a .epoch j) → b ≡ withSlot a k l x e
 unfolding withSlot
-with-slot a b k l x e r n c d cs es =
-    view-ext b (withSlot a k l x e) r n
+with-slot a b k l x e r f n c d cs es =
+    view-ext b (withSlot a k l x e) r f n
     (λ j. put-case (λ (y : Condition). b .condition j ≡ y) (a .condition) k x j (λ q. rw q c) (cs j))
     (λ j. put-case (λ (y : ℕ). b .epoch j ≡ y) (a .epoch) k e j (λ q. rw q d) (es j))
 
 mended-seen : (a b : View) (k : ℕ) → a .readable ≡ true → Mended k a b → b ≡ withSlot a k (a .length) Whole (a .epoch k)
-mended-seen a b k ok t = with-slot a b k (a .length) Whole (a .epoch k) (t .readable ∙ sym ok) (t .lengths) (t .whole) (t .epochs k) (t .conditions) (λ j q. t .epochs j)
+mended-seen a b k ok t = with-slot a b k (a .length) Whole (a .epoch k) (t .readable ∙ sym ok) (t .first) (t .lengths) (t .whole) (t .epochs k) (t .conditions) (λ j q. t .epochs j)
 
 -- ---- the stores, on an image
 
@@ -45,7 +45,7 @@ module _ (S : Setting) (c : ℕ) (i : Image) (ok : view S c i .readable ≡ true
   unfolding seenAfter viewOf condition epochOf
   blank-seen l h =
       let t = blank-effect S c i ok l h in
-      with-slot (view S c i) (view S c (setRecord i l blank)) l l Unused 0 (t .readable ∙ sym ok) (t .is)
+      with-slot (view S c i) (view S c (setRecord i l blank)) l l Unused 0 (t .readable ∙ sym ok) (t .first) (t .is)
       (record-condition (S .shape .m) i l blank) (record-epoch (S .shape .m) i l blank) (record-condition-other (S .shape .m) i l blank) (record-epoch-other (S .shape .m) i l blank)
 
   mend-seen : (k d : ℕ) (x : Entry) → k < view S c i .length → Mended k (view S c i) (view S c (setEntry i k x))
@@ -68,7 +68,7 @@ module _ (S : Setting) (c : ℕ) (i : Image) (ok : view S c i .readable ≡ true
   append-seen e t =
       let l = view S c i .length in
       rw (le-ltb l l (omega arith))
-      (with-slot (view S c i) (view S c (setRecord i l (good e))) l (suc l) Whole e (t .readable ∙ sym ok) (t .is) (t .whole) (t .epoch)
+      (with-slot (view S c i) (view S c (setRecord i l (good e))) l (suc l) Whole e (t .readable ∙ sym ok) (t .first) (t .is) (t .whole) (t .epoch)
       (record-condition-other (S .shape .m) i l (good e)) (record-epoch-other (S .shape .m) i l (good e)))
 
 -- ---- the store that is due

@@ -19,7 +19,7 @@ use Rattle.recovery.specs.Answers.{numbers}
 
 -- a view with a log so long, and slot k in this condition and epoch
 unfoldable pub withSlot : View → ℕ → ℕ → Condition → ℕ → View
-withSlot v k l a e = record { readable = v .readable; length = l; condition = put (v .condition) k a; epoch = put (v .epoch) k e }
+withSlot v k l a e = record { readable = v .readable; first = v .first; length = l; condition = put (v .condition) k a; epoch = put (v .epoch) k e }
 
 -- an entry mends a used slot, and is not seen behind the log; a record mends a used slot, or is appended; a blanked record ends the log
 unfoldable pub seenAfter : Store → View → View
@@ -34,6 +34,7 @@ viewsAfter s W = put W (storeReplica s) (seenAfter s (W (storeReplica s)))
 -- r is the survey s but for replica c: its log is so long, and its slot k has condition number x and epoch e
 pub record SlotSet (s r : Survey) (c k l x e : ℕ) : Type 0 where
   pub readables : r .readable ≡ s .readable
+  pub firsts : r .firsts ≡ s .firsts
   pub lengths : r .lengths ≡ set (s .lengths) c l
   pub conditions : r .conditions ≡ set (s .conditions) (c * 64 + k) x
   pub epochs : r .epochs ≡ set (s .epochs) (c * 64 + k) e

@@ -14,11 +14,11 @@ pub enum NextStore {
 }
 
 // What stands of a cluster's recovery: refused by this number; waiting, with the lowest waiting slot's number; or ready, with the first
-// store still outstanding.
+// store still outstanding, and the index of the first slot of the replica that it is made on.
 pub enum Outlook {
     Refused(u8),
     Waiting(usize),
-    Ready(NextStore),
+    Ready { store: NextStore, first: u32 },
 }
 
 // A step's answer: the store that it made, by replica, slot and kind (kind.rt); document 01's settled; waiting, with the lowest waiting

@@ -1,6 +1,6 @@
 -- An input that is written column by column is read as what it was written from.
 use Prim.Native.Nat.{ℕ, _+_, _≤_, _<_}
-use mathlib.Core.Path.{_≡_, refl, sym, ap, _∙_}
+use mathlib.Core.Path.{_≡_, refl, sym, ap, ap₂, _∙_}
 use mathlib.Core.List.{[], _∷_, _++_}
 use native.Mathlib.Omega.{arith}
 use lib.ListN.{length, drop, getD, length-append}
@@ -15,7 +15,7 @@ use Rattle.column.proofs.ColumnLaws.{length-column}
 use Rattle.column.proofs.StateLaws.{number-written, blank-spaces}
 use Rattle.record.specs.declared.Shape.{Shape}
 use Rattle.report.specs.Command.{commandOf, commandLine, presentOf}
-use Rattle.report.specs.Report.{clusterReport, commandReport, reportOf}
+use Rattle.report.specs.Report.{clusterReport, firstEdition, commandReport, reportOf}
 use Rattle.report.specs.SetClaim.{inputOf, blankSet, Writable}
 use Rattle.report.specs.declared.Command.{Command}
 use Rattle.report.specs.declared.Present.the-variants.{Set, LeaderAlone}
@@ -79,14 +79,18 @@ module _ (Z : Shape) (leader : ℕ) (set b : Bytes) (four : length set ≡ 4) wh
         rw (le-ltb _ _ short, ← read-as, drop-at line b 14 length-line) refl
 
 module _ (Z : Shape) (leader : ℕ) (b : Bytes) (w : Writable Z leader b) where
+  -- it names n and m alone
+  own-shape : firstEdition (Z .n) (Z .m) ≡ Z
+  own-shape = λ i. record { n = Z .n; m = Z .m; edition = sym (w .edition-one) i }
+
   pub printed-blank : {x : ℕ} → x ≡ presentOf (Z .n) leader LeaderAlone → reportOf (inputOf Z leader blankSet b) ≡ clusterReport Z leader x b
   unfolding commandReport
   printed-blank e =
       printed Z leader blankSet b refl w (with-blank _ _ _ _ refl refl refl (blank-spaces 4 (omega arith)))
-      ∙ ap (λ (x : ℕ). clusterReport Z leader x b) (sym e)
+      ∙ ap₂ (λ (Y : Shape) (x : ℕ). clusterReport Y leader x b) own-shape (sym e)
 
   pub printed-full : (x : ℕ) → x < 10000 → reportOf (inputOf Z leader (column 4 x) b) ≡ clusterReport Z leader x b
   unfolding commandReport
   printed-full x h =
       printed Z leader (column 4 x) b (length-column 4 x) w (with-set _ _ _ _ refl refl refl (number-written 4 x h))
-      ∙ ap (λ (y : ℕ). clusterReport Z leader y b) (sym (present-set (Z .n) leader (Set x) refl))
+      ∙ ap₂ (λ (Y : Shape) (y : ℕ). clusterReport Y leader y b) own-shape (sym (present-set (Z .n) leader (Set x) refl))

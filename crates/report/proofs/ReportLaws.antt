@@ -12,14 +12,13 @@ use Rattle.search.specs.Search.{joined}
 use Rattle.search.proofs.ListedLaws.{getD-listed, joined-cong}
 use Rattle.slices.specs.Parts.{Bytes}
 use Rattle.record.specs.declared.Shape.{Shape}
-use Rattle.record.specs.Layout.{shapeOf}
 use Rattle.image.specs.View.{View}
 use Rattle.planner.specs.Setting.{Setting, settingOf}
 use Rattle.planner.specs.Rules.{answer}
 use Rattle.planner.specs.Plan.{viewsIn, planByte, planBytes, clusterRefusal}
 use Rattle.planner.specs.Survey.{SurveyOf, Planned}
 use Rattle.report.specs.Command.{commandLine, presentOf}
-use Rattle.report.specs.Report.{refusedLine, clusterReport, commandReport, reportOf, headLine, slotLine, statusOf, numberOf, slotLines, planLines, Prints}
+use Rattle.report.specs.Report.{refusedLine, clusterReport, firstEdition, commandReport, reportOf, headLine, slotLine, statusOf, numberOf, slotLines, planLines, Prints}
 use Rattle.report.specs.Lines.{lineFrom}
 use Rattle.report.specs.declared.Present.{Present}
 use Rattle.report.specs.declared.Command.{Command}
@@ -29,7 +28,7 @@ pub prints : {x y page : Bytes} {count : ℕ} → x ≡ y → Prints x page coun
 prints e h = record { fits = h .fits; bytes = h .bytes ∙ e }
 
 module _
-    (S : Setting) (W : ℕ → View) {n at readable : ℕ} {lengths conditions epochs : List ℕ} (s : SurveyOf S W n at readable lengths conditions epochs)
+    (S : Setting) (W : ℕ → View) {n at readable : ℕ} {firsts lengths conditions epochs : List ℕ} (s : SurveyOf S W n at readable firsts lengths conditions epochs)
     {bytes : List ℕ} {final waiting : ℕ} (p : Planned S W bytes final waiting) where
   reads : W (S .leader) .readable ≡ true
   reads = rw (s .leader-is) (s .leader-reads)
@@ -55,13 +54,13 @@ module _
       → headLine n leader 1 (waiting + 1) ++ joined (getD lengths at 0) (lineFrom epochs (at * 64) bytes) ≡ planLines n leader S W
   unfolding planLines answer statusOf numberOf
   waiting-lines leader h =
-      rw (reads, ← p .waiting-is, ← p .end-is, lt-ltb _ _ h, add-one) (ap (λ (x : Bytes). headLine n leader 1 (suc waiting) ++ x) lines-are)
+      rw (reads, s .same-firsts, ← p .waiting-is, ← p .end-is, lt-ltb _ _ h, add-one) (ap (λ (x : Bytes). headLine n leader 1 (suc waiting) ++ x) lines-are)
 
   pub ready-lines : (leader : ℕ) → final ≤ waiting
       → headLine n leader 0 final ++ joined (getD lengths at 0) (lineFrom epochs (at * 64) bytes) ≡ planLines n leader S W
   unfolding planLines answer statusOf numberOf
   ready-lines leader h =
-      rw (reads, ← p .waiting-is, ← p .end-is, le-ltb _ _ h) (ap (λ (x : Bytes). headLine n leader 0 final ++ x) lines-are)
+      rw (reads, s .same-firsts, ← p .waiting-is, ← p .end-is, le-ltb _ _ h) (ap (λ (x : Bytes). headLine n leader 0 final ++ x) lines-are)
 
 -- ---- which line is printed for an input
 
@@ -86,8 +85,8 @@ module _ (b : Bytes) where
     malformed-report e k = rw (le-ltb _ _ h, ← e, k) refl
 
     pub well-report : {c : Command} {n m leader w : ℕ} {set : Present} → c ≡ commandLine b → c ≡ Well n m leader set
-        → w ≡ presentOf n leader set → clusterReport (shapeOf n m) leader w (take (length b - 14) (drop 14 b)) ≡ reportOf b
+        → w ≡ presentOf n leader set → clusterReport (firstEdition n m) leader w (take (length b - 14) (drop 14 b)) ≡ reportOf b
     unfolding reportOf commandReport
     well-report {c} {n} {m} {leader} {w} {set} e k f =
         let all : take (length b - 14) (drop 14 b) ≡ drop 14 b = take-all (length b - 14) (drop 14 b) (rw length-drop (omega arith)) in
-        rw (all, le-ltb _ _ h, ← e, k) (ap (λ (x : ℕ). clusterReport (shapeOf n m) leader x (drop 14 b)) f)
+        rw (all, le-ltb _ _ h, ← e, k) (ap (λ (x : ℕ). clusterReport (firstEdition n m) leader x (drop 14 b)) f)

@@ -1,7 +1,7 @@
 -- Which refusal is printed of a set: 1, 2 and 3 come before 11 and 12, and 11 before 12.
 use Prim.Native.Nat.{ℕ, pred, zero, suc, _^_, _≤_}
 use mathlib.Core.Path.{_≡_, refl, sym, ap, _∙_}
-use mathlib.Core.Bool.{false, not, _&&_}
+use mathlib.Core.Bool.{Bool, true, false, not, _&&_}
 use native.Mathlib.Omega.{arith}
 use lib.Dec.{ltb}
 use lib.Pow.{pow-pos}
@@ -9,9 +9,11 @@ use borrow.Author.Tests.{lt-ltb, le-ltb}
 use Rattle.slices.specs.Parts.{Bytes}
 use Rattle.record.specs.declared.Shape.{Shape}
 use Rattle.image.specs.Refusal.{refuse, _else_}
-use Rattle.image.specs.View.{isReplica}
+use Rattle.image.specs.View.{isSize, isReplica}
+use Rattle.image.proofs.CallLaws.{is-edition}
 use Rattle.image.proofs.RefusalLaws.{else-zero-r}
 use Rattle.planner.specs.Setting.{settingOf}
+use Rattle.planner.specs.Rules.{sameFirsts}
 use Rattle.planner.specs.Plan.{viewsIn, shapeRefusal, clusterRefusal}
 use Rattle.report.specs.Report.{refusedLine, clusterReport}
 use Rattle.report.specs.SetClaim.{afterShape}
@@ -22,14 +24,21 @@ unfolding _else_
 else-assoc zero s t = refl
 else-assoc (suc r) s t = refl
 
-module _ (Z : Shape) (leader present : ℕ) (b : Bytes) where
+and-on : (t : Bool) → (t && true) ≡ t
+and-on true = refl
+and-on false = refl
+
+module _ (Z : Shape) (one : Z .edition ≡ 1) (leader present : ℕ) (b : Bytes) where
   -- what is tried behind 1, 2 and 3
   abbrev later : ℕ
-  later = refuse 11 (not (ltb present (2 ^ Z .n))) else refuse 12 (not (isReplica (Z .n) leader && viewsIn (settingOf Z leader present) b (pred leader) .readable))
+  later =
+      refuse 11 (not (ltb present (2 ^ Z .n)))
+      else refuse 12 (not (isReplica (Z .n) leader && viewsIn (settingOf Z leader present) b (pred leader) .readable))
+      else refuse 21 (not (sameFirsts (settingOf Z leader present) (viewsIn (settingOf Z leader present) b)))
 
   in-order : clusterRefusal Z leader present b ≡ afterShape Z b later
   unfolding clusterRefusal shapeRefusal afterShape
-  in-order = simp else-assoc
+  in-order = rw (is-edition (Z .edition) (omega arith) (omega arith), and-on (isSize (Z .n))) (simp else-assoc)
 
   shows : (r : ℕ) → later ≡ suc r → clusterReport Z leader present b ≡ refusedLine (afterShape Z b (suc r))
   unfolding afterShape
@@ -41,7 +50,7 @@ module _ (Z : Shape) (leader present : ℕ) (b : Bytes) where
   unfolding refuse _else_
   stray-refused h q = rw q (shows 10 (rw (le-ltb present (2 ^ Z .n) h) refl))
 
-pub no-leader-refused : (Z : Shape) (leader : ℕ) (b : Bytes) {r : ℕ} → isReplica (Z .n) leader ≡ false → r ≡ 12
+pub no-leader-refused : (Z : Shape) → Z .edition ≡ 1 → (leader : ℕ) (b : Bytes) {r : ℕ} → isReplica (Z .n) leader ≡ false → r ≡ 12
     → clusterReport Z leader 0 b ≡ refusedLine (afterShape Z b r)
 unfolding refuse _else_
-no-leader-refused Z leader b e q = rw q (shows Z leader 0 b 11 (rw (lt-ltb 0 (2 ^ Z .n) (pow-pos (Z .n)), e) refl))
+no-leader-refused Z one leader b e q = rw q (shows Z one leader 0 b 11 (rw (lt-ltb 0 (2 ^ Z .n) (pow-pos (Z .n)), e) refl))

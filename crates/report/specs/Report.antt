@@ -9,7 +9,6 @@ use Rattle.search.specs.Search.{joined}
 use Rattle.slices.specs.Parts.{Bytes}
 use Rattle.column.specs.Column.{column}
 use Rattle.record.specs.declared.Shape.{Shape}
-use Rattle.record.specs.Layout.{shapeOf}
 use Rattle.image.specs.View.{View}
 use Rattle.planner.specs.Setting.{Setting, settingOf}
 use Rattle.planner.specs.Rules.{Answer, Refused, Waiting, Ready, answer}
@@ -59,9 +58,13 @@ clusterReport Z leader present b =
     (planLines (Z .n) leader (settingOf Z leader present) (viewsIn (settingOf Z leader present) b))
     (refusedLine (clusterRefusal Z leader present b))
 
+-- the printing program stays with edition 1 (02, Six)
+abbrev pub firstEdition : ℕ → ℕ → Shape
+firstEdition n m = record { n = n; m = m; edition = 1 }
+
 -- a command line that is not well formed is refused by 14
 unfoldable pub commandReport : Command → Bytes → Bytes
-commandReport (Well n m leader set) b = clusterReport (shapeOf n m) leader (presentOf n leader set) b
+commandReport (Well n m leader set) b = clusterReport (firstEdition n m) leader (presentOf n leader set) b
 commandReport Malformed b = refusedLine 14
 
 -- input over 65,536 bytes is refused by 3, before all else

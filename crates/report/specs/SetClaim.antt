@@ -24,8 +24,9 @@ inputOf Z leader set b = (column 3 (Z .n) ++ (column 3 (Z .m) ++ (column 3 leade
 abbrev pub blankSet : Bytes
 blankSet = replicate 4 32
 
--- the numbers fit their columns, and the input is at most 65,536 bytes long
+-- the shape is of edition 1, the numbers fit their columns, and the input is at most 65,536 bytes long
 pub record Writable (Z : Shape) (leader : ℕ) (b : Bytes) : Type 0 where
+  pub edition-one : Z .edition ≡ 1
   pub n-fits : Z .n < 1000
   pub m-fits : Z .m < 1000
   pub leader-fits : leader < 1000

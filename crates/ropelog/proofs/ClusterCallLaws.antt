@@ -1,52 +1,42 @@
 -- The two ends of every call about a cluster: the answer, with what is handed out, or the refusal, and nothing is.
 use Prim.Native.Nat.{ℕ}
-use mathlib.Core.Path.{_≡_, refl, sym, ap, subst, _∙_}
+use mathlib.Core.Path.{_≡_, refl, sym, ap, _∙_}
 use mathlib.Core.Bool.{Bool, true, false, cond}
 use mathlib.Core.List.{List}
-use native.Mathlib.Omega.{arith}
-use lib.Dec.{eqb, ltb}
+use lib.Dec.{eqb}
 use borrow.Author.Tests.{eqb-true}
 use Rattle.slices.specs.Parts.{Bytes}
 use Rattle.record.specs.declared.Shape.{Shape}
-use Rattle.image.specs.View.{View}
 use Rattle.image.proofs.RefusalLaws.{else-zero-l}
-use Rattle.planner.specs.Setting.{Setting, settingOf}
-use Rattle.planner.specs.Rules.{Answer, Refused, Waiting, Ready, answer, end, firstWaiting}
+use Rattle.planner.specs.Setting.{settingOf}
+use Rattle.planner.specs.Rules.{Answer, Refused, Waiting, Ready, answer}
 use Rattle.planner.specs.Plan.{viewsIn, lentRefusal, planRefusal}
 use Rattle.image.specs.Refusal.{unlessRefused}
 use Rattle.image.specs.Answers.{Numbered}
 use Rattle.image.specs.Answers as numbered
 use Rattle.planner.specs.Answers.{planNumbers, answerNumbers, planNumbered}
-use Rattle.planner.proofs.CallLaws.{leader-accepted}
+use Rattle.planner.proofs.CallLaws.{leader-accepted, firsts-accepted}
 use Rattle.planner.specs.declared.ReplicaRow.{ReplicaRow}
 use Rattle.planner.specs.declared.PlanAnswer.{PlanAnswer}
-use Rattle.protocol.specs.Call.{Call, plan}
-use Rattle.protocol.specs.CallResult.{Result, refused, waiting, recovered, spent, countOf, callResult, callBytes}
+use Rattle.protocol.specs.Call.{plan}
+use Rattle.protocol.specs.CallResult.{Result, refused, waiting, countOf, callResult}
+use Rattle.protocol.proofs.CallLaws.{not-refused}
 use Rattle.recovery.specs.Answers.{numbers, planResult, stepAnswerResult, runAnswerResult, counted}
 use Rattle.recovery.specs.declared.StepAnswer.{StepAnswer}
 use Rattle.recovery.specs.declared.RunAnswer.{RunAnswer}
 use Rattle.recovery.specs.declared.RunAnswer.the-variants as run-answer
 use Rattle.recovery.proofs.PlanCallLaws.{plan-result}
-use Rattle.ropelog.specs.Clusters.{resultRefusal, resultStatus, resultNumber, resultReplica, resultSlot, resultKind, resultStores}
-
-answer-known : (S : Setting) (W : ℕ → View) → W (S .leader) .readable ≡ true → answer S W ≡ Refused → ⊥
-unfolding answer
-answer-known S W r h = go (W (S .leader) .readable) (ltb (firstWaiting S W) (end S W)) r h
-  where
-    go : (t u : Bool) → t ≡ true → cond t (cond u (Waiting (firstWaiting S W)) (Ready (end S W))) Refused ≡ Refused → ⊥
-    go true true q z = let y : _≡_ {A = ℕ} 0 1 = cc in omega (arith, y)
-    go true false q z = let y : _≡_ {A = ℕ} 0 1 = cc in omega (arith, y)
-    go false u q z = let y : _≡_ {A = ℕ} 0 1 = cc in omega (arith, y)
+use Rattle.ropelog.specs.Clusters.{planCalled, resultRefusal, resultStatus, resultNumber, resultReplica, resultSlot, resultKind, resultStores}
 
 -- a cluster that is not refused has an answer
-pub not-refused :
+has-answer :
     (Z : Shape) (leader present : ℕ) (b : Bytes) (bytes rows : ℕ) →
     planRefusal Z leader present b bytes rows ≡ 0 →
     answer (settingOf Z leader present) (viewsIn (settingOf Z leader present) b) ≡ Refused →
     ⊥
 unfolding planRefusal lentRefusal settingOf
-not-refused Z leader present b bytes rows e =
-    answer-known (settingOf Z leader present) (viewsIn (settingOf Z leader present) b) (leader-accepted Z leader present b (else-zero-l _ _ e) .1)
+has-answer Z leader present b bytes rows e =
+    let z = else-zero-l _ _ e in not-refused (settingOf Z leader present) b (leader-accepted Z leader present b z .1) (firsts-accepted Z leader present b z)
 
 -- ---- planning
 
@@ -62,7 +52,7 @@ module _ (Z : Shape) (leader present : ℕ) (b : Bytes) (bytes rows : ℕ) where
 
   answered-refusal : resultRefusal (planResult (planNumbered R planned)) ≡ R
   unfolding planNumbered answerNumbers
-  answered-refusal = go (eqb R 0) planned refl (not-refused Z leader present b bytes rows)
+  answered-refusal = go (eqb R 0) planned refl (has-answer Z leader present b bytes rows)
     where
       go : (t : Bool) (x : Answer) → eqb R 0 ≡ t → (R ≡ 0 → x ≡ Refused → ⊥) → resultRefusal (planResult (cond t (answerNumbers x) (numbered.refused R))) ≡ R
       go true Refused q known = absurd (known (eqb-true _ _ q) refl)
@@ -90,43 +80,45 @@ module _ (Z : Shape) (leader present : ℕ) (b : Bytes) (bytes rows : ℕ) where
         out .2 ∙ ap (λ (z : Result). resultNumber z number) q,
       )
 
+-- of a table of so many rows
+pub lent-rows : (Z : Shape) (leader present : ℕ) (b : Bytes) (bytes rows lent : ℕ) {r : ℕ} → r ≡ resultRefusal (planCalled Z leader present b bytes lent) → lent ≡ rows
+    → r ≡ resultRefusal (planCalled Z leader present b bytes rows)
+lent-rows Z leader present b bytes rows lent e q = e ∙ ap (λ (x : ℕ). resultRefusal (planCalled Z leader present b bytes x)) q
+
+-- of a call with this refusal
+pub unless-refused : (refusal : ℕ) (filled lent : List ReplicaRow) (r : ℕ) {table : List ReplicaRow} → table ≡ unlessRefused r filled lent → r ≡ refusal
+    → table ≡ unlessRefused refusal filled lent
+unless-refused refusal filled lent r e q = e ∙ ap (λ (x : ℕ). unlessRefused x filled lent) q
+
 -- ---- step and run
 
--- what is said of the shape that the code makes, of the shape of the numbers
-module _ {Z Y : Shape} (z : Z ≡ Y) (leading present : ℕ) (a : Call) (b : Bytes) {after : Bytes} where
-  pub step-at :
-      {x : Result} →
-      (x ≡ callResult (numbers Z leading present) a b) × (after ≡ callBytes (numbers Z leading present) a b) →
-      (x ≡ callResult (numbers Y leading present) a b) × (after ≡ callBytes (numbers Y leading present) a b)
-  step-at {x} = subst (λ (y : Shape). (x ≡ callResult (numbers y leading present) a b) × (after ≡ callBytes (numbers y leading present) a b)) z
-
-  pub run-at :
-      {x : Result × ℕ} →
-      (x ≡ counted (callResult (numbers Z leading present) a b)) × (after ≡ callBytes (numbers Z leading present) a b) →
-      (x ≡ counted (callResult (numbers Y leading present) a b)) × (after ≡ callBytes (numbers Y leading present) a b)
-  run-at {x} = subst (λ (y : Shape). (x ≡ counted (callResult (numbers y leading present) a b)) × (after ≡ callBytes (numbers y leading present) a b)) z
-
+-- each number that is handed out is the answer's
 pub step-answered :
     (y : Result) (after new : Bytes) (a x : StepAnswer) → a ≡ x → stepAnswerResult a ≡ y → after ≡ new →
-    (status replica slot kind : ℕ) →
-    (resultRefusal (stepAnswerResult x) ≡ resultRefusal y)
+    (status replica slot kind : ℕ) {r last-status last-replica last-slot last-kind : ℕ} →
+    r ≡ resultRefusal (stepAnswerResult x) →
+    last-status ≡ resultStatus (stepAnswerResult x) status →
+    last-replica ≡ resultReplica (stepAnswerResult x) replica →
+    last-slot ≡ resultSlot (stepAnswerResult x) slot →
+    last-kind ≡ resultKind (stepAnswerResult x) kind →
+    (r ≡ resultRefusal y)
     × (after ≡ new)
-    × (resultStatus (stepAnswerResult x) status ≡ resultStatus y status)
-    × (resultReplica (stepAnswerResult x) replica ≡ resultReplica y replica)
-    × (resultSlot (stepAnswerResult x) slot ≡ resultSlot y slot)
-    × (resultKind (stepAnswerResult x) kind ≡ resultKind y kind)
-step-answered y after new a x g e left status replica slot kind =
+    × (last-status ≡ resultStatus y status)
+    × (last-replica ≡ resultReplica y replica)
+    × (last-slot ≡ resultSlot y slot)
+    × (last-kind ≡ resultKind y kind)
+step-answered y after new a x g e left status replica slot kind r₁ s₁ c₁ k₁ w₁ =
     let q : stepAnswerResult x ≡ y = ap stepAnswerResult (sym g) ∙ e in (
-      ap resultRefusal q,
+      r₁ ∙ ap resultRefusal q,
       left,
-      ap (λ (z : Result). resultStatus z status) q,
-      ap (λ (z : Result). resultReplica z replica) q,
-      ap (λ (z : Result). resultSlot z slot) q,
-      ap (λ (z : Result). resultKind z kind) q,
+      s₁ ∙ ap (λ (z : Result). resultStatus z status) q,
+      c₁ ∙ ap (λ (z : Result). resultReplica z replica) q,
+      k₁ ∙ ap (λ (z : Result). resultSlot z slot) q,
+      w₁ ∙ ap (λ (z : Result). resultKind z kind) q,
     )
 
 -- the count in a run's answer; a refused run has none
-abbrev storesIn : RunAnswer → ℕ → ℕ
+abbrev pub storesIn : RunAnswer → ℕ → ℕ
 storesIn (run-answer.Recovered count) old = count
 storesIn (run-answer.Spent count) old = count
 storesIn (run-answer.Waiting k count) old = count
@@ -143,18 +135,22 @@ run-stores (run-answer.Refused r) y e old = ap (λ (z : Result × ℕ). resultSt
 
 pub run-answered :
     (y : Result) (after new : Bytes) (a x : RunAnswer) → a ≡ x → runAnswerResult a ≡ counted y → after ≡ new →
-    (status stores slot : ℕ) →
-    (resultRefusal (runAnswerResult x .0) ≡ resultRefusal y)
+    (status stores slot : ℕ) {r last-status last-stores last-slot : ℕ} →
+    r ≡ resultRefusal (runAnswerResult x .0) →
+    last-status ≡ resultStatus (runAnswerResult x .0) status →
+    last-stores ≡ storesIn x stores →
+    last-slot ≡ resultSlot (runAnswerResult x .0) slot →
+    (r ≡ resultRefusal y)
     × (after ≡ new)
-    × (resultStatus (runAnswerResult x .0) status ≡ resultStatus y status)
-    × (storesIn x stores ≡ resultStores y stores)
-    × (resultSlot (runAnswerResult x .0) slot ≡ resultSlot y slot)
-run-answered y after new a x g e left status stores slot =
+    × (last-status ≡ resultStatus y status)
+    × (last-stores ≡ resultStores y stores)
+    × (last-slot ≡ resultSlot y slot)
+run-answered y after new a x g e left status stores slot r₁ s₁ n₁ k₁ =
     let p : runAnswerResult x ≡ counted y = ap runAnswerResult (sym g) ∙ e in
     let q : runAnswerResult x .0 ≡ y = ap (λ (z : Result × ℕ). z .0) p in (
-      ap resultRefusal q,
+      r₁ ∙ ap resultRefusal q,
       left,
-      ap (λ (z : Result). resultStatus z status) q,
-      run-stores x y p stores,
-      ap (λ (z : Result). resultSlot z slot) q,
+      s₁ ∙ ap (λ (z : Result). resultStatus z status) q,
+      n₁ ∙ run-stores x y p stores,
+      k₁ ∙ ap (λ (z : Result). resultSlot z slot) q,
     )

@@ -1,6 +1,6 @@
 -- The two ends of every call about an image: the answer, with what is handed out, or the refusal, and nothing is.
-use Prim.Native.Nat.{ℕ, suc, _-_}
-use mathlib.Core.Path.{_≡_, refl, sym, ap, subst, _∙_}
+use Prim.Native.Nat.{ℕ, _-_}
+use mathlib.Core.Path.{_≡_, refl, sym, ap, _∙_}
 use mathlib.Core.Bool.{Bool, true, false, cond}
 use native.Mathlib.Omega.{arith}
 use lib.Dec.{eqb}
@@ -10,42 +10,10 @@ use Rattle.slices.specs.Parts.{Bytes, part}
 use Rattle.slices.proofs.PartLaws.{length-part}
 use Rattle.record.specs.declared.Shape.{Shape}
 use Rattle.image.specs.Scan.{SpanIn}
-use Rattle.image.specs.Append.{appended, formatted}
-use Rattle.image.specs.Read.{payloadOf, payloadAt}
-use Rattle.image.specs.Answers.{Numbered, refused, value, numbered, formatCallNumbers, readCallNumbers, epochsLeft, verdictsLeft, appendCallNumbers, payloadCallNumbers}
+use Rattle.image.specs.Append.{formatRefusal, formatted}
+use Rattle.image.specs.Answers.{Numbered, refused, value, numbered, formatCallNumbers, payloadCallNumbers}
 use Rattle.image.specs.Refusal.{unlessRefused}
 use Rattle.ropelog.specs.Images.{flag}
-
--- ---- what is said of the shape that the code makes, of the shape of the numbers
-
-module _ {Z Y : Shape} (z : Z ≡ Y) (c : ℕ) (b : Bytes) where
-  pub format-at :
-      {x : Numbered (Unit {0})} {after : Bytes} →
-      (x ≡ formatCallNumbers Z c (length b)) × (after ≡ formatted Z c b) →
-      (x ≡ formatCallNumbers Y c (length b)) × (after ≡ formatted Y c b)
-  format-at {x} {after} = subst (λ (y : Shape). (x ≡ formatCallNumbers y c (length b)) × (after ≡ formatted y c b)) z
-
-  pub append-at :
-      (e : ℕ) (p : Bytes) {x : Numbered ℕ} {after : Bytes} →
-      (x ≡ appendCallNumbers Z c b e (length p)) × (after ≡ appended Z c b e p) →
-      (x ≡ appendCallNumbers Y c b e (length p)) × (after ≡ appended Y c b e p)
-  append-at e p {x} {after} = subst (λ (y : Shape). (x ≡ appendCallNumbers y c b e (length p)) × (after ≡ appended y c b e p)) z
-
-  pub read-at :
-      (epochs verdicts : Bytes) {x : Numbered ℕ} {epochs′ verdicts′ : Bytes} →
-      (x ≡ readCallNumbers Z c b (length epochs) (length verdicts)) × (epochs′ ≡ epochsLeft Z c b epochs (length verdicts)) × (verdicts′ ≡ verdictsLeft Z c b (length epochs) verdicts) →
-      (x ≡ readCallNumbers Y c b (length epochs) (length verdicts)) × (epochs′ ≡ epochsLeft Y c b epochs (length verdicts)) × (verdicts′ ≡ verdictsLeft Y c b (length epochs) verdicts)
-  read-at epochs verdicts {x} {epochs′} {verdicts′} =
-      subst
-      (λ (y : Shape).
-      (x ≡ readCallNumbers y c b (length epochs) (length verdicts)) × (epochs′ ≡ epochsLeft y c b epochs (length verdicts)) × (verdicts′ ≡ verdictsLeft y c b (length epochs) verdicts))
-      z
-
-  pub has-at : (s : ℕ) {x : Numbered Bool} → x ≡ payloadCallNumbers Z c b s → x ≡ payloadCallNumbers Y c b s
-  has-at s {x} = subst (λ (y : Shape). x ≡ payloadCallNumbers y c b s) z
-
-  pub payload-at : (s : ℕ) {found : Bytes} {at : ℕ} → (found ≡ payloadOf Z c b s) × (at ≡ payloadAt Z c b s) → (found ≡ payloadOf Y c b s) × (at ≡ payloadAt Y c b s)
-  payload-at s {found} {at} = subst (λ (y : Shape). (found ≡ payloadOf y c b s) × (at ≡ payloadAt y c b s)) z
 
 -- ---- of an answer in numbers
 
@@ -66,12 +34,31 @@ module _ {A : Type 0} (refusal : ℕ) (v : A) where
       go true e h = absurd (let z : _≡_ {A = ℕ} 0 1 = cc in omega arith)
       go false e h = let same : x ≡ refusal = cc in (same, rw same e)
 
+-- ---- formatting
+
+-- x is the first index that the code passes on, r what it answers
+pub format-done :
+    (Z : Shape) (c first x : ℕ) (b after : Bytes) {r : ℕ} →
+    (value tt ≡ formatCallNumbers Z c x (length b)) × (after ≡ formatted Z c x b) →
+    x ≡ first → r ≡ 0 →
+    (r ≡ formatRefusal Z c first (length b)) × (after ≡ formatted Z c first b)
+format-done Z c first x b after h f e =
+    (e ∙ answered (formatRefusal Z c x (length b)) tt tt (h .0) .0 ∙ ap (λ (y : ℕ). formatRefusal Z c y (length b)) f, h .1 ∙ ap (λ (y : ℕ). formatted Z c y b) f)
+
+pub format-refused :
+    (Z : Shape) (c first x : ℕ) (b after : Bytes) (y : ℕ) {r : ℕ} →
+    (refused y ≡ formatCallNumbers Z c x (length b)) × (after ≡ formatted Z c x b) →
+    x ≡ first → r ≡ y →
+    (r ≡ formatRefusal Z c first (length b)) × (after ≡ formatted Z c first b)
+format-refused Z c first x b after y h f e =
+    (e ∙ denied (formatRefusal Z c x (length b)) tt y (h .0) .0 ∙ ap (λ (z : ℕ). formatRefusal Z c z (length b)) f, h .1 ∙ ap (λ (z : ℕ). formatted Z c z b) f)
+
 -- ---- appending
 
 module _ (refusal slot : ℕ) (after new : Bytes) (written : after ≡ new) (old : ℕ) where
-  pub append-done : (x : ℕ) → value x ≡ numbered refusal slot → (0 ≡ refusal) × (after ≡ new) × (x ≡ unlessRefused 0 slot old)
+  pub append-done : (x : ℕ) → value x ≡ numbered refusal slot → {out : ℕ} → out ≡ x → (0 ≡ refusal) × (after ≡ new) × (out ≡ unlessRefused 0 slot old)
   unfolding unlessRefused
-  append-done x h = let a = answered refusal slot x h in (a .0, written, a .1)
+  append-done x h o = let a = answered refusal slot x h in (a .0, written, o ∙ a .1)
 
   pub append-refused : (x : ℕ) → refused x ≡ numbered refusal slot → (x ≡ refusal) × (after ≡ new) × (old ≡ unlessRefused x slot old)
   unfolding unlessRefused
@@ -79,31 +66,41 @@ module _ (refusal slot : ℕ) (after new : Bytes) (written : after ≡ new) (old
 
 -- ---- reading
 
-module _ (refusal used : ℕ) (e es e′ v vs v′ : Bytes) (epochs : e′ ≡ unlessRefused refusal e es) (verdicts : v′ ≡ unlessRefused refusal v vs) (old : ℕ) where
+module _ (refusal used first : ℕ) (e es e′ v vs v′ : Bytes) (epochs : e′ ≡ unlessRefused refusal e es) (verdicts : v′ ≡ unlessRefused refusal v vs) (old-used old-first : ℕ) where
   pub read-done :
-      (len : ℕ) →
-      value len ≡ numbered refusal used →
-      (0 ≡ refusal) × (e′ ≡ unlessRefused 0 e es) × (v′ ≡ unlessRefused 0 v vs) × (len ≡ unlessRefused 0 used old)
+      (len begins : ℕ) →
+      _≡_ {A = Numbered (ℕ × ℕ)} (value (len, begins)) (numbered refusal (used, first)) →
+      {last-used last-first : ℕ} → last-used ≡ len → last-first ≡ begins →
+      (0 ≡ refusal) × (e′ ≡ unlessRefused 0 e es) × (v′ ≡ unlessRefused 0 v vs) × (last-used ≡ unlessRefused 0 used old-used) × (last-first ≡ unlessRefused 0 first old-first)
   unfolding unlessRefused
-  read-done len h = let a = answered refusal used len h in (a .0, epochs ∙ rw (← a .0), verdicts ∙ rw (← a .0), a .1)
+  read-done len begins h p q =
+      let a = answered refusal (used, first) (len, begins) h in
+      (a .0, epochs ∙ rw (← a .0), verdicts ∙ rw (← a .0), p ∙ ap (λ (z : ℕ × ℕ). z .0) (a .1), q ∙ ap (λ (z : ℕ × ℕ). z .1) (a .1))
 
   pub read-refused :
       (x : ℕ) →
-      refused x ≡ numbered refusal used →
-      (x ≡ refusal) × (e′ ≡ unlessRefused x e es) × (v′ ≡ unlessRefused x v vs) × (old ≡ unlessRefused x used old)
+      _≡_ {A = Numbered (ℕ × ℕ)} (refused x) (numbered refusal (used, first)) →
+      {last-used last-first : ℕ} → last-used ≡ old-used → last-first ≡ old-first →
+      (x ≡ refusal) × (e′ ≡ unlessRefused x e es) × (v′ ≡ unlessRefused x v vs) × (last-used ≡ unlessRefused x used old-used) × (last-first ≡ unlessRefused x first old-first)
   unfolding unlessRefused
-  read-refused x h = let a = denied refusal used x h in (a .0, epochs ∙ rw (← a .0), verdicts ∙ rw (← a .0), rw (a .1))
+  read-refused x h p q =
+      let a = denied refusal (used, first) x h in
+      (a .0, epochs ∙ rw (← a .0), verdicts ∙ rw (← a .0), p ∙ rw (a .1), q ∙ rw (a .1))
 
 -- ---- whether there is a payload
 
-module _ (refusal : ℕ) (has : Bool) (old : ℕ) where
-  pub has-present : value true ≡ numbered refusal has → (0 ≡ refusal) × (1 ≡ unlessRefused 0 (flag has) old)
-  unfolding unlessRefused flag
-  has-present h = let a = answered refusal has true h in (a .0, ap flag (a .1))
+-- x is the slot that the code asks for
+pub has-at : (Z : Shape) (c : ℕ) (b : Bytes) (s x : ℕ) {y : Numbered Bool} → y ≡ payloadCallNumbers Z c b x → x ≡ s → y ≡ payloadCallNumbers Z c b s
+has-at Z c b s x h e = rw e at h
 
-  pub has-absent : value false ≡ numbered refusal has → (0 ≡ refusal) × (0 ≡ unlessRefused 0 (flag has) old)
+module _ (refusal : ℕ) (has : Bool) (old : ℕ) where
+  pub has-present : value true ≡ numbered refusal has → {out : ℕ} → out ≡ 1 → (0 ≡ refusal) × (out ≡ unlessRefused 0 (flag has) old)
   unfolding unlessRefused flag
-  has-absent h = let a = answered refusal has false h in (a .0, ap flag (a .1))
+  has-present h o = let a = answered refusal has true h in (a .0, o ∙ ap flag (a .1))
+
+  pub has-absent : value false ≡ numbered refusal has → {out : ℕ} → out ≡ 0 → (0 ≡ refusal) × (out ≡ unlessRefused 0 (flag has) old)
+  unfolding unlessRefused flag
+  has-absent h o = let a = answered refusal has false h in (a .0, o ∙ ap flag (a .1))
 
   pub has-refused : (x : ℕ) → refused x ≡ numbered refusal has → (x ≡ refusal) × (old ≡ unlessRefused x (flag has) old)
   unfolding unlessRefused

@@ -14,7 +14,7 @@ use Rattle.record.specs.declared.HeaderState.{HeaderState}
 use Rattle.record.specs.declared.RecordState.{RecordState}
 use Rattle.record.specs.declared.EntryState.{EntryState}
 use Rattle.image.specs.Refusal.{unlessRefused}
-use Rattle.ropelog.specs.Pieces.{sizeRefusal, entryRefusal, headerStateCode, headerCode, columnStateCode, columnStateOut, columnCode, columnOut, recordStateCode, recordStateOut, recordCode, recordOut, entryStateCode, entryStateEpochOut, entryStateSizeOut, entryCode, entryEpochOut, entrySizeOut}
+use Rattle.ropelog.specs.Pieces.{sizeRefusal, entryRefusal, headerStateCode, headerStateOut, headerCode, headerOut, columnStateCode, columnStateOut, columnCode, columnOut, recordStateCode, recordStateOut, recordCode, recordOut, entryStateCode, entryStateEpochOut, entryStateSizeOut, entryCode, entryEpochOut, entrySizeOut}
 
 pub write-wrong-size : (size : ℕ) (b new : Bytes) → (length b ≡ size → ⊥) → (3 ≡ sizeRefusal size b) × (b ≡ unlessRefused 3 new b)
 unfolding sizeRefusal unlessRefused
@@ -25,12 +25,12 @@ pub write-done :
 unfolding sizeRefusal unlessRefused
 write-done size b new after h e = (simp (eq-eqb _ _ h), e)
 
--- a header is written for the shape of the numbers that the call was given
-pub header-wrong-size : {Z Y : Shape} (c : ℕ) (b : Bytes) {size : ℕ} → Z ≡ Y → size ≡ headerSize Z → (length b ≡ size → ⊥) → (3 ≡ sizeRefusal (headerSize Y) b) × (b ≡ unlessRefused 3 (headerBytes Y c) b)
-header-wrong-size {Z} {Y} c b z s h = write-wrong-size (headerSize Y) b (headerBytes Y c) (λ e. h (e ∙ sym (s ∙ ap headerSize z)))
+-- a header has its shape's size. x is the first index that the code passes on
+pub header-wrong-size : (Z : Shape) (c first : ℕ) (b : Bytes) {size : ℕ} → size ≡ headerSize Z → (length b ≡ size → ⊥) → (3 ≡ sizeRefusal (headerSize Z) b) × (b ≡ unlessRefused 3 (headerBytes Z c first) b)
+header-wrong-size Z c first b s h = write-wrong-size (headerSize Z) b (headerBytes Z c first) (λ e. h (e ∙ sym s))
 
-pub header-done : {Z Y : Shape} (c : ℕ) (b after : Bytes) {size : ℕ} → Z ≡ Y → size ≡ headerSize Z → length b ≡ size → after ≡ headerBytes Z c → (0 ≡ sizeRefusal (headerSize Y) b) × (after ≡ unlessRefused 0 (headerBytes Y c) b)
-header-done {Z} {Y} c b after z s h e = write-done (headerSize Y) b (headerBytes Y c) after (h ∙ s ∙ ap headerSize z) (e ∙ ap (λ (y : Shape). headerBytes y c) z)
+pub header-done : (Z : Shape) (c first x : ℕ) (b after : Bytes) {size : ℕ} → size ≡ headerSize Z → length b ≡ size → after ≡ headerBytes Z c x → x ≡ first → (0 ≡ sizeRefusal (headerSize Z) b) × (after ≡ unlessRefused 0 (headerBytes Z c first) b)
+header-done Z c first x b after s h e f = write-done (headerSize Z) b (headerBytes Z c first) after (h ∙ s) (e ∙ ap (headerBytes Z c) f)
 
 pub entry-wrong-size : (b p new : Bytes) → (length b ≡ 240 → ⊥) → (3 ≡ entryRefusal b p) × (b ≡ unlessRefused 3 new b)
 unfolding entryRefusal unlessRefused
@@ -45,9 +45,11 @@ pub entry-done :
 unfolding entryRefusal unlessRefused
 entry-done b p new after h l e = (simp (eq-eqb _ _ h, le-leb _ _ l), e)
 
-pub header-judged : {Z Y : Shape} (c : ℕ) (b : Bytes) (x : HeaderState) → Z ≡ Y → x ≡ headerAnswer (readHeader Z c b) → (code : ℕ) → code ≡ headerStateCode x → code ≡ headerCode Y c b
-unfolding headerCode
-header-judged c b x z e code k = k ∙ ap headerStateCode (e ∙ ap (λ (y : Shape). headerAnswer (readHeader y c b)) z)
+pub header-judged :
+    (Z : Shape) (c : ℕ) (b : Bytes) (old : ℕ) (x : HeaderState) → x ≡ headerAnswer (readHeader Z c b) →
+    (code out : ℕ) → code ≡ headerStateCode x → out ≡ headerStateOut x old → (code ≡ headerCode Z c b) × (out ≡ headerOut Z c b old)
+unfolding headerCode headerOut
+header-judged Z c b old x e code out k o = (k ∙ ap headerStateCode e, o ∙ ap (λ (y : HeaderState). headerStateOut y old) e)
 
 pub column-too-wide : (b : Bytes) (old : ℕ) → 19 < length b → (3 ≡ columnCode b) × (old ≡ columnOut b old)
 unfolding columnCode columnOut

@@ -32,8 +32,16 @@ abbrev pub headerStateCode : HeaderState → ℕ
 headerStateCode (header-state.Proper first) = 0
 headerStateCode header-state.Improper = 1
 
+-- the first index that the writer's header gives
+abbrev pub headerStateOut : HeaderState → ℕ → ℕ
+headerStateOut (header-state.Proper first) old = first
+headerStateOut header-state.Improper old = old
+
 unfoldable pub headerCode : Shape → ℕ → Bytes → ℕ
 headerCode Z c b = headerStateCode (headerAnswer (readHeader Z c b))
+
+unfoldable pub headerOut : Shape → ℕ → Bytes → ℕ → ℕ
+headerOut Z c b old = headerStateOut (headerAnswer (readHeader Z c b)) old
 
 -- a column's state by code, and the number that stands in it
 abbrev pub columnStateCode : ColumnState → ℕ

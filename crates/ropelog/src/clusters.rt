@@ -1,7 +1,6 @@
 // The calls about a cluster, for any lent bytes: 0, or document 01's refusal by number. A refused call changes nothing that was lent.
 ghost use mathlib.Core.Path.{_≡_};
 ghost use lib.ListN.{length};
-ghost use Rattle.record.specs.Layout.{shapeOf};
 ghost use Rattle.image.specs.Refusal.{unlessRefused};
 ghost use Rattle.protocol.specs.Call.{step, run};
 ghost use Rattle.protocol.specs.CallResult.{callBytes};
@@ -9,9 +8,9 @@ ghost use Rattle.recovery.specs.Answers.{numbers, planResult};
 ghost use Rattle.planner.specs.Answers.{planNumbers, planIn, rowsIn};
 ghost use Rattle.ropelog.specs.Clusters.{planCalled, stepCalled, runCalled};
 ghost use Rattle.ropelog.specs.Clusters.{resultRefusal, resultStatus, resultNumber, resultReplica, resultSlot, resultKind, resultStores};
-use crate::shape::shape_of;
 use planner::PlanAnswer;
 use planner::ReplicaRow;
+use record::Shape;
 
 // Hands out a plan's answer: 0 and the final length, or 1 and the lowest waiting slot; or answers the refusal.
 fn hand_out(answer: PlanAnswer, status: &mut u8, number: &mut usize) -> u8
@@ -38,8 +37,7 @@ fn hand_out(answer: PlanAnswer, status: &mut u8, number: &mut usize) -> u8
 #[no_mangle]
 pub extern "C" fn rope_plan(
     cluster: &[u8],
-    n: usize,
-    m: usize,
+    shape: Shape,
     leading: usize,
     present: u32,
     plan: &mut [u8],
@@ -47,17 +45,17 @@ pub extern "C" fn rope_plan(
     status: &mut u8,
     number: &mut usize,
 ) -> u8
-    ensures { λ r. ⌜ (r ≡ resultRefusal (planCalled (shapeOf n m) leading present (now (cluster .entry))
+    ensures { λ r. ⌜ (r ≡ resultRefusal (planCalled shape leading present (now (cluster .entry))
         (length (now (plan .entry))) (length (now (rows .entry)))))
-        × (now (plan .exit) ≡ unlessRefused r (planIn (shapeOf n m) leading present (now (cluster .entry))) (now (plan .entry)))
-        × (now (rows .exit) ≡ unlessRefused r (rowsIn (shapeOf n m) leading present (now (cluster .entry))) (now (rows .entry)))
-        × (now (status .exit) ≡ resultStatus (planCalled (shapeOf n m) leading present (now (cluster .entry))
+        × (now (plan .exit) ≡ unlessRefused r (planIn shape leading present (now (cluster .entry))) (now (plan .entry)))
+        × (now (rows .exit) ≡ unlessRefused r (rowsIn shape leading present (now (cluster .entry))) (now (rows .entry)))
+        × (now (status .exit) ≡ resultStatus (planCalled shape leading present (now (cluster .entry))
         (length (now (plan .entry))) (length (now (rows .entry)))) (now (status .entry)))
-        × (now (number .exit) ≡ resultNumber (planCalled (shapeOf n m) leading present (now (cluster .entry))
+        × (now (number .exit) ≡ resultNumber (planCalled shape leading present (now (cluster .entry))
         (length (now (plan .entry))) (length (now (rows .entry)))) (now (number .entry))) ⌝ }
 {
     hand_out(
-        plan::plan_cluster(cluster, shape_of(n, m), leading, present, plan, rows),
+        plan::plan_cluster(cluster, shape, leading, present, plan, rows),
         status,
         number,
     )
@@ -68,8 +66,7 @@ pub extern "C" fn rope_plan(
 #[no_mangle]
 pub extern "C" fn rope_step(
     cluster: &mut [u8],
-    n: usize,
-    m: usize,
+    shape: Shape,
     leading: usize,
     present: u32,
     status: &mut u8,
@@ -77,14 +74,14 @@ pub extern "C" fn rope_step(
     slot: &mut usize,
     kind: &mut u8,
 ) -> u8
-    ensures { λ r. ⌜ (r ≡ resultRefusal (stepCalled (shapeOf n m) leading present (now (cluster .entry))))
-        × (now (cluster .exit) ≡ callBytes (numbers (shapeOf n m) leading present) step (now (cluster .entry)))
-        × (now (status .exit) ≡ resultStatus (stepCalled (shapeOf n m) leading present (now (cluster .entry))) (now (status .entry)))
-        × (now (replica .exit) ≡ resultReplica (stepCalled (shapeOf n m) leading present (now (cluster .entry))) (now (replica .entry)))
-        × (now (slot .exit) ≡ resultSlot (stepCalled (shapeOf n m) leading present (now (cluster .entry))) (now (slot .entry)))
-        × (now (kind .exit) ≡ resultKind (stepCalled (shapeOf n m) leading present (now (cluster .entry))) (now (kind .entry))) ⌝ }
+    ensures { λ r. ⌜ (r ≡ resultRefusal (stepCalled shape leading present (now (cluster .entry))))
+        × (now (cluster .exit) ≡ callBytes (numbers shape leading present) step (now (cluster .entry)))
+        × (now (status .exit) ≡ resultStatus (stepCalled shape leading present (now (cluster .entry))) (now (status .entry)))
+        × (now (replica .exit) ≡ resultReplica (stepCalled shape leading present (now (cluster .entry))) (now (replica .entry)))
+        × (now (slot .exit) ≡ resultSlot (stepCalled shape leading present (now (cluster .entry))) (now (slot .entry)))
+        × (now (kind .exit) ≡ resultKind (stepCalled shape leading present (now (cluster .entry))) (now (kind .entry))) ⌝ }
 {
-    match step::step_cluster(cluster, shape_of(n, m), leading, present) {
+    match step::step_cluster(cluster, shape, leading, present) {
         recovery::StepAnswer::Stored {
             replica: on,
             slot: at,
@@ -114,8 +111,7 @@ pub extern "C" fn rope_step(
 #[no_mangle]
 pub extern "C" fn rope_run(
     cluster: &mut [u8],
-    n: usize,
-    m: usize,
+    shape: Shape,
     leading: usize,
     present: u32,
     budget: u64,
@@ -123,13 +119,13 @@ pub extern "C" fn rope_run(
     stores: &mut u64,
     slot: &mut usize,
 ) -> u8
-    ensures { λ r. ⌜ (r ≡ resultRefusal (runCalled (shapeOf n m) leading present (now (cluster .entry)) budget))
-        × (now (cluster .exit) ≡ callBytes (numbers (shapeOf n m) leading present) (run budget) (now (cluster .entry)))
-        × (now (status .exit) ≡ resultStatus (runCalled (shapeOf n m) leading present (now (cluster .entry)) budget) (now (status .entry)))
-        × (now (stores .exit) ≡ resultStores (runCalled (shapeOf n m) leading present (now (cluster .entry)) budget) (now (stores .entry)))
-        × (now (slot .exit) ≡ resultSlot (runCalled (shapeOf n m) leading present (now (cluster .entry)) budget) (now (slot .entry))) ⌝ }
+    ensures { λ r. ⌜ (r ≡ resultRefusal (runCalled shape leading present (now (cluster .entry)) budget))
+        × (now (cluster .exit) ≡ callBytes (numbers shape leading present) (run budget) (now (cluster .entry)))
+        × (now (status .exit) ≡ resultStatus (runCalled shape leading present (now (cluster .entry)) budget) (now (status .entry)))
+        × (now (stores .exit) ≡ resultStores (runCalled shape leading present (now (cluster .entry)) budget) (now (stores .entry)))
+        × (now (slot .exit) ≡ resultSlot (runCalled shape leading present (now (cluster .entry)) budget) (now (slot .entry))) ⌝ }
 {
-    match run::run_cluster(cluster, shape_of(n, m), leading, present, budget) {
+    match run::run_cluster(cluster, shape, leading, present, budget) {
         recovery::RunAnswer::Recovered(made) => {
             *status = 0;
             *stores = made;

@@ -2,4 +2,3 @@
 pub mod pieces; // pieces.rt: the checksum, columns, headers, records and entries
 pub mod images; // images.rt: one image formatted, appended to, read, and asked for a payload
 pub mod clusters; // clusters.rt: a cluster planned, and its recovery by steps and runs
-mod shape; // shape.rt: a shape of the numbers that a call is given

@@ -4,14 +4,14 @@ ghost use mathlib.Core.Path.{_≡_};
 ghost use lib.ListN.{length};
 ghost use Rattle.checksum.specs.Checksum.{checksumOf};
 ghost use Rattle.column.specs.Column.{column};
-ghost use Rattle.record.specs.Layout.{shapeOf, headerSize, recordSize, entrySize, headerBytes, recordBytes, blankRecord, entryBytes, freshEntry};
+ghost use Rattle.record.specs.Layout.{headerSize, recordSize, entrySize, headerBytes, recordBytes, blankRecord, entryBytes, freshEntry};
 ghost use Rattle.image.specs.Refusal.{unlessRefused};
-ghost use Rattle.ropelog.specs.Pieces.{sizeRefusal, entryRefusal, headerCode, columnCode, columnOut, recordCode, recordOut, entryCode, entryEpochOut, entrySizeOut};
-use crate::shape::shape_of;
+ghost use Rattle.ropelog.specs.Pieces.{sizeRefusal, entryRefusal, headerCode, headerOut, columnCode, columnOut, recordCode, recordOut, entryCode, entryEpochOut, entrySizeOut};
 use locate::ENTRY_SIZE;
 use locate::MAX_PAYLOAD;
 use locate::RECORD_SIZE;
 use locate::header_size;
+use record::Shape;
 
 // A wider column can hold more than 64 bits.
 const WIDEST_COLUMN: usize = 19;
@@ -51,17 +51,16 @@ pub extern "C" fn rope_read_column(s: &[u8], value: &mut u64) -> u8
     }
 }
 
-// Writes a header: 0, or 3 and nothing written.
+// Writes a header with the index of the first slot, where its edition gives one: 0, or 3 and nothing written.
 #[no_mangle]
-pub extern "C" fn rope_write_header(s: &mut [u8], replica: usize, n: usize, m: usize) -> u8
-    ensures { λ r. ⌜ (r ≡ sizeRefusal (headerSize (shapeOf n m)) (now (s .entry)))
-        × (now (s .exit) ≡ unlessRefused r (headerBytes (shapeOf n m) replica) (now (s .entry))) ⌝ }
+pub extern "C" fn rope_write_header(s: &mut [u8], shape: Shape, replica: usize, first: u32) -> u8
+    ensures { λ r. ⌜ (r ≡ sizeRefusal (headerSize shape) (now (s .entry)))
+        × (now (s .exit) ≡ unlessRefused r (headerBytes shape replica first) (now (s .entry))) ⌝ }
 {
-    let shape = shape_of(n, m);
     if s.len() != header_size(shape) {
         return 3;
     }
-    write::write_header(s, shape, replica);
+    write::write_header(s, shape, replica, first);
     0
 }
 
@@ -120,13 +119,17 @@ pub extern "C" fn rope_write_fresh_entry(s: &mut [u8]) -> u8
     0
 }
 
-// Judges a header: 0 the writer's for this replica, n and m, 1 other bytes.
+// Judges a header: 0 the writer's for this shape and replica, and the index that it gives of the first slot, 1 other bytes.
 #[no_mangle]
-pub extern "C" fn rope_judge_header(s: &[u8], replica: usize, n: usize, m: usize) -> u8
-    ensures { λ r. ⌜ r ≡ headerCode (shapeOf n m) replica (now (s .entry)) ⌝ }
+pub extern "C" fn rope_judge_header(s: &[u8], shape: Shape, replica: usize, first: &mut u32) -> u8
+    ensures { λ r. ⌜ (r ≡ headerCode shape replica (now (s .entry)))
+        × (now (first .exit) ≡ headerOut shape replica (now (s .entry)) (now (first .entry))) ⌝ }
 {
-    match judge::judge_header(s, shape_of(n, m), replica) {
-        record::HeaderState::Proper(_) => 0,
+    match judge::judge_header(s, shape, replica) {
+        record::HeaderState::Proper(given) => {
+            *first = given;
+            0
+        }
         record::HeaderState::Improper => 1,
     }
 }

@@ -61,7 +61,7 @@ fn run_answer(store: NextStore, made: u64) -> RunAnswer
 }
 
 // Makes at most `budget` stores on a cluster, and counts them. The images are read once; what each store changes is noted. The leader by
-// its number.
+// its number; every readable replica's log begins where the leader's does.
 pub fn run_cluster(
     cluster: &mut [u8],
     shape: Shape,
@@ -92,7 +92,8 @@ pub fn run_cluster(
         if !is_outstanding(store) {
             return RunAnswer::Recovered(made);
         }
-        make_store(cluster, shape, store);
+        let first = survey.firsts[leader];
+        make_store(cluster, shape, first, store);
         made += 1;
         survey = note_store(survey, store);
         store = next_store(cluster, survey, shape, leader, made_on(store));

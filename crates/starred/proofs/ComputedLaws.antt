@@ -5,17 +5,17 @@ use Rattle.slices.specs.Parts.{part}
 use Rattle.slices.specs.Same.{same}
 use Rattle.checksum.specs.Checksum.{sumA, sumB, checksumOf}
 use Rattle.column.specs.Column.{digits, column, digitStep, valueFrom, valueOf}
-use Rattle.record.specs.Layout.{headerSize, sealed, headerBytes, recordBytes, blankRecord, padded, entryBytes, freshEntry}
-use Rattle.record.specs.Meaning.{isEpoch, firstIndex, readHeader, isGood, recordEpoch, readRecord, isIntact, entryEpoch, entryPayload, readEntry}
+use Rattle.record.specs.Layout.{givesFirst, headerSize, sealed, firstColumn, headerBytes, recordBytes, blankRecord, padded, entryBytes, freshEntry}
+use Rattle.record.specs.Meaning.{isEpoch, firstIndex, isFirst, headerFirst, isHeader, readHeader, isGood, recordEpoch, readRecord, isIntact, entryEpoch, entryPayload, readEntry}
 use Rattle.image.specs.Refusal.{refuse, _else_}
 use Rattle.image.specs.Image.{index, imageSize, recordAt, entryAt, decodeUnder, firstIn, decodeImage}
-use Rattle.image.specs.View.{condition, epochOf, conditionAt, epochAt, isBlank, isProper, isLost, logLength, noGap, noneLost, rising, imageRefusal, viewOf, isSize, isReplica, isSlots, callRefusal, readRefusal}
+use Rattle.image.specs.View.{condition, epochOf, conditionAt, epochAt, isBlank, isProper, isLost, logLength, noGap, noneLost, rising, imageRefusal, viewOf, isSize, isReplica, isSlots, isEdition, namedRefusal, callRefusal, readRefusal}
 use Rattle.image.specs.Verdict.{verdictOf, verdictAt, isFresh}
 use Rattle.image.specs.Append.{lastEpoch, appendRefusal}
 use Rattle.image.specs.Read.{isWhole, hasPayload}
 use Rattle.image.specs.Cluster.{imageAt, imagePart, firstAt, decode}
 use Rattle.planner.specs.Setting.{settingOf, has, viewsOf}
-use Rattle.planner.specs.Rules.{majority, mayTruncate, isFaulty, isUsed, isTruncate, isWait, answers, agrees, have, dontHave, donor, rule, end, firstWaiting, answer}
+use Rattle.planner.specs.Rules.{majority, mayTruncate, isFaulty, isUsed, isTruncate, isWait, answers, agrees, have, dontHave, donor, rule, end, firstWaiting, sameFirsts, answer}
 use Rattle.planner.specs.Plan.{viewsIn, shapeRefusal, clusterRefusal, lentRefusal, planRefusal, keptByte, ruleByte, planByte, planBytes}
 use Rattle.protocol.specs.Call.{refusalOf}
 use Rattle.protocol.specs.CallResult.{readyResult, acceptedResult, callResult}
@@ -28,7 +28,7 @@ use Rattle.starred.specs.Stale.{StalePlaces}
 use Rattle.starred.proofs.SeenLaws.{over, recordOf, entryOf, Seen}
 
 pub computed : Starred × Sizes × Seen × StalePlaces
-unfolding lowest count sum oneIf all listed joined part same sumA sumB checksumOf digits column digitStep valueFrom valueOf headerSize sealed headerBytes recordBytes blankRecord padded entryBytes freshEntry isEpoch firstIndex readHeader isGood recordEpoch readRecord isIntact entryEpoch entryPayload readEntry refuse _else_ index imageSize recordAt entryAt decodeUnder firstIn decodeImage condition epochOf conditionAt epochAt isBlank isProper isLost logLength noGap noneLost rising imageRefusal viewOf isSize isReplica isSlots callRefusal readRefusal verdictOf verdictAt isFresh lastEpoch appendRefusal isWhole hasPayload imageAt imagePart firstAt decode settingOf has viewsOf majority mayTruncate isFaulty isUsed isTruncate isWait answers agrees have dontHave donor rule end firstWaiting answer viewsIn shapeRefusal clusterRefusal lentRefusal planRefusal keptByte ruleByte planByte planBytes refusalOf readyResult acceptedResult callResult cards.noise cards.scratch cards.whole cards.one cards.two cards.faultyOf cards.hasOf cards.lacksOf sizes.cards sizes.planned sizes.answers sizes.bytes stale.last stale.before stale.stale stale.planned over recordOf entryOf
+unfolding lowest count sum oneIf all listed joined part same sumA sumB checksumOf digits column digitStep valueFrom valueOf givesFirst headerSize sealed firstColumn headerBytes recordBytes blankRecord padded entryBytes freshEntry isEpoch firstIndex isFirst headerFirst isHeader readHeader isGood recordEpoch readRecord isIntact entryEpoch entryPayload readEntry refuse _else_ index imageSize recordAt entryAt decodeUnder firstIn decodeImage condition epochOf conditionAt epochAt isBlank isProper isLost logLength noGap noneLost rising imageRefusal viewOf isSize isReplica isSlots isEdition namedRefusal callRefusal readRefusal verdictOf verdictAt isFresh lastEpoch appendRefusal isWhole hasPayload imageAt imagePart firstAt decode settingOf has viewsOf majority mayTruncate isFaulty isUsed isTruncate isWait answers agrees have dontHave donor rule end firstWaiting sameFirsts answer viewsIn shapeRefusal clusterRefusal lentRefusal planRefusal keptByte ruleByte planByte planBytes refusalOf readyResult acceptedResult callResult cards.noise cards.scratch cards.whole cards.one cards.two cards.faultyOf cards.hasOf cards.lacksOf sizes.cards sizes.planned sizes.answers sizes.bytes stale.last stale.before stale.stale stale.planned over recordOf entryOf
 computed = (starred, by-size, seen, stale-places)
   where
     starred : Starred

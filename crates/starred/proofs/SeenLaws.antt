@@ -33,7 +33,7 @@ unfoldable pub entryOf : ℕ → ℕ → Entry
 entryOf d c = cond (eqb c 0) (broken noise) (cond (ltb d c) (intact 2 (65 ∷ [])) (broken freshEntry))
 
 pub record Seen : Type 0 where
-  pub headers : over (λ n d. listed n (λ c. decode (withOne n) (cards n d) c .header)) ≡ over (λ n d. listed n (λ c. proper))
+  pub headers : over (λ n d. listed n (λ c. decode (withOne n) (cards n d) c .header)) ≡ over (λ n d. listed n (λ c. proper 1))
   pub records : over (λ n d. listed n (λ c. decode (withOne n) (cards n d) c .records 0)) ≡ over (λ n d. listed n (recordOf d))
   pub entries : over (λ n d. listed n (λ c. decode (withOne n) (cards n d) c .entries 0)) ≡ over (λ n d. listed n (entryOf d))
   pub accepted : over (λ n d. refusalIn (asked n d) (cards n d)) ≡ over (λ n d. 0)

@@ -16,10 +16,10 @@ scratch = replicate 34 9
 
 -- n replicas with one slot and with two
 abbrev pub withOne : ℕ → Shape
-withOne n = record { n = n; m = 1 }
+withOne n = record { n = n; m = 1; edition = 1 }
 
 abbrev pub withTwo : ℕ → Shape
-withTwo n = record { n = n; m = 2 }
+withTwo n = record { n = n; m = 2; edition = 1 }
 
 -- slot k under epoch e, as written
 unfoldable pub whole : ℕ → ℕ → Bytes
@@ -27,20 +27,20 @@ whole e k = entryBytes e k (65 ∷ [])
 
 -- an image of one slot and one of two, of replica 1 of 3
 unfoldable pub one : Bytes → Bytes → Bytes
-one r x = headerBytes (withOne 3) 1 ++ (r ++ x)
+one r x = headerBytes (withOne 3) 1 1 ++ (r ++ x)
 
 unfoldable pub two : Bytes → Bytes → Bytes → Bytes → Bytes
-two r s x y = headerBytes (withTwo 3) 1 ++ (r ++ (s ++ (x ++ y)))
+two r s x y = headerBytes (withTwo 3) 1 1 ++ (r ++ (s ++ (x ++ y)))
 
 -- the image of replica c of n, with one slot, under epoch 2: its entry is noise; it has it; it does not
 unfoldable pub faultyOf : ℕ → ℕ → Bytes
-faultyOf n c = headerBytes (withOne n) c ++ (recordBytes 2 1 ++ noise)
+faultyOf n c = headerBytes (withOne n) c 1 ++ (recordBytes 2 1 ++ noise)
 
 unfoldable pub hasOf : ℕ → ℕ → Bytes
-hasOf n c = headerBytes (withOne n) c ++ (recordBytes 2 1 ++ whole 2 1)
+hasOf n c = headerBytes (withOne n) c 1 ++ (recordBytes 2 1 ++ whole 2 1)
 
 unfoldable pub lacksOf : ℕ → ℕ → Bytes
-lacksOf n c = headerBytes (withOne n) c ++ (blankRecord ++ freshEntry)
+lacksOf n c = headerBytes (withOne n) c 1 ++ (blankRecord ++ freshEntry)
 
 -- of 5
 abbrev pub faulty : ℕ → Bytes

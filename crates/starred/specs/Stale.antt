@@ -26,7 +26,7 @@ before x = (
 
 -- the image of replica c of five, with one slot: its entry is of epoch 1
 unfoldable pub stale : ℕ → Bytes
-stale c = headerBytes (withOne 5) c ++ (recordBytes 2 1 ++ whole 1 1)
+stale c = headerBytes (withOne 5) c 1 ++ (recordBytes 2 1 ++ whole 1 1)
 
 -- the answer of the planner for such a cluster, with this present set, and the plan byte of the slot
 unfoldable pub planned : ℕ → Bytes → Result × ℕ

@@ -15,7 +15,8 @@ use recovery::StepAnswer;
 use recovery::kind;
 use store::make_store;
 
-// What stands of the recovery of a cluster: refused, waiting, or the first store still outstanding. The leader by its number.
+// What stands of the recovery of a cluster: refused, waiting, or the first store still outstanding, and where the log begins that it is
+// made on: where the leader's does. The leader by its number.
 pub fn view_recovery(cluster: &[u8], shape: Shape, leading: usize, present: u32) -> Outlook
     ensures { λ r. ⌜ OutlookIs (numbers shape leading present) (now (cluster .entry)) r ⌝ }
 {
@@ -31,7 +32,10 @@ pub fn view_recovery(cluster: &[u8], shape: Shape, leading: usize, present: u32)
         return Outlook::Waiting(waiting + 1);
     }
     let leader = opening.leader;
-    Outlook::Ready(first_store(cluster, opening.survey, plan, shape, leader))
+    let survey = opening.survey;
+    let store = first_store(cluster, survey, plan, shape, leader);
+    let first = survey.firsts[leader];
+    Outlook::Ready { store, first }
 }
 
 // The answer that names slot k of replica c, by their numbers.
@@ -67,8 +71,8 @@ pub fn step_cluster(cluster: &mut [u8], shape: Shape, leading: usize, present: u
     match view_recovery(cluster, shape, leading, present) {
         Outlook::Refused(refusal) => StepAnswer::Refused(refusal),
         Outlook::Waiting(slot) => StepAnswer::Waiting(slot),
-        Outlook::Ready(store) => {
-            make_store(cluster, shape, store);
+        Outlook::Ready { store, first } => {
+            make_store(cluster, shape, first, store);
             step_answer(store, shape)
         }
     }

@@ -5,13 +5,12 @@ ghost use lib.ListN.{length};
 ghost use Rattle.slices.specs.Parts.{part, spliced};
 ghost use Rattle.record.specs.Layout.{entrySize, recordBytes, blankRecord};
 ghost use Rattle.image.specs.Image.{index, recordAt, entryAt};
-ghost use Rattle.image.specs.Cluster.{imageAt, firstAt};
+ghost use Rattle.image.specs.Cluster.{imageAt};
 ghost use Rattle.protocol.specs.Recovery.{after};
 ghost use Rattle.protocol.specs.StepBytes.{afterStoreBytes};
 ghost use Rattle.image.specs.Fits.{ImageFits};
-ghost use Rattle.recovery.specs.NextStore.{storeOf, StoreFits};
+ghost use Rattle.recovery.specs.NextStore.{storeOf, StoreFits, BeginsAt};
 use locate::ENTRY_SIZE;
-use locate::FIRST_INDEX;
 use locate::entry_in;
 use locate::index_of;
 use locate::record_in;
@@ -46,13 +45,13 @@ fn copy_entry(cluster: &mut [u8], shape: Shape, c: usize, k: usize, donor: usize
     write::write_entry_bytes(&mut cluster[to..to_end], &entry);
 }
 
-// Writes the record of slot k of replica c for an epoch.
-fn write_record(cluster: &mut [u8], shape: Shape, c: usize, k: usize, epoch: u32)
+// Writes the record of slot k of replica c for an epoch, as in a log that begins at index `first`.
+fn write_record(cluster: &mut [u8], shape: Shape, first: u32, c: usize, k: usize, epoch: u32)
     requires { ⌜ (shape .m ≤ 64) × (k < shape .m) × ImageFits shape (length (now cluster)) c ⌝ }
-    ensures { λ _. ⌜ now (cluster .exit) ≡ spliced (now (cluster .entry)) (imageAt shape c + recordAt shape k) (recordBytes epoch (index (firstAt shape (now (cluster .entry)) c) k)) ⌝ }
+    ensures { λ _. ⌜ now (cluster .exit) ≡ spliced (now (cluster .entry)) (imageAt shape c + recordAt shape k) (recordBytes epoch (index first k)) ⌝ }
 {
     let at = record_in(shape, c, k);
-    write::put_record(cluster, at, epoch, index_of(FIRST_INDEX, k));
+    write::put_record(cluster, at, epoch, index_of(first, k));
 }
 
 // Blanks the record of slot k of replica c.
@@ -64,9 +63,10 @@ fn blank_record(cluster: &mut [u8], shape: Shape, c: usize, k: usize)
     write::put_blank(cluster, at);
 }
 
-// Makes a store.
-pub fn make_store(cluster: &mut [u8], shape: Shape, store: NextStore)
+// Makes a store on a replica whose log begins at index `first`.
+pub fn make_store(cluster: &mut [u8], shape: Shape, first: u32, store: NextStore)
     requires { ⌜ (shape .m ≤ 64) × StoreFits shape (length (now cluster)) store ⌝ }
+    requires { ⌜ BeginsAt shape (now cluster) store first ⌝ }
     ensures { λ _. ⌜ now (cluster .exit) ≡ after (storeOf store) (now (cluster .entry)) (λ s. afterStoreBytes shape s (now (cluster .entry))) ⌝ }
 {
     match store {
@@ -75,7 +75,7 @@ pub fn make_store(cluster: &mut [u8], shape: Shape, store: NextStore)
             copy_entry(cluster, shape, c, k, donor);
         }
         NextStore::Record { c, k, epoch } => {
-            write_record(cluster, shape, c, k, epoch);
+            write_record(cluster, shape, first, c, k, epoch);
         }
         NextStore::Blank { c, k } => {
             blank_record(cluster, shape, c, k);

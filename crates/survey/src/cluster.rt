@@ -1,12 +1,12 @@
 // A cluster's refusals, and its survey. Planning, step and run share them.
-ghost use Prim.Native.Nat.{pred, _-_, _≤_};
+ghost use Prim.Native.Nat.{pred, _-_, _<_, _≤_};
 ghost use mathlib.Core.Path.{_≡_};
 ghost use Rattle.planner.specs.Setting.{has, settingOf};
 ghost use mathlib.Core.Bool.{not, _&&_};
 ghost use Rattle.image.specs.Refusal.{refuse};
 ghost use Rattle.image.specs.View.{isReplica};
 ghost use Rattle.planner.specs.Plan.{viewsIn, shapeRefusal, clusterRefusal};
-ghost use Rattle.planner.specs.Survey.{SurveyIs};
+ghost use Rattle.planner.specs.Survey.{sameNumbers, SurveyIs};
 use crate::sets::contains;
 use crate::survey_cluster;
 use image::MAX_REPLICAS;
@@ -35,6 +35,9 @@ fn shape_refusal(size: usize, shape: Shape, present: u32) -> u8
     if !vet::is_size(shape.n) {
         return 2;
     }
+    if !vet::is_edition(shape.edition) {
+        return 2;
+    }
     if size != image_at(shape, shape.n) {
         return 3;
     }
@@ -61,10 +64,33 @@ fn leader_refusal(readable: u32, n: usize, leading: usize) -> u8
     0
 }
 
+// Refusal 21: the log of a readable replica begins at another index than the leader's. The leader counts from 0.
+fn firsts_refusal(survey: Survey, n: usize, leader: usize) -> u8
+    requires { ⌜ (n ≤ 7) × (leader < n) ⌝ }
+    ensures { λ r. ⌜ r ≡ refuse 21 (not (sameNumbers n leader (survey .readable) (survey .firsts))) ⌝ }
+{
+    let readable = survey.readable;
+    let firsts = survey.firsts;
+    let first = firsts[leader];
+    let mut c: usize = 0;
+    'replicas: while c < n {
+        if !contains(readable, c) {
+            c += 1;
+            continue 'replicas;
+        }
+        if firsts[c] != first {
+            return 21;
+        }
+        c += 1;
+    }
+    0
+}
+
 // The survey of no replica.
 fn no_survey() -> Survey {
     Survey {
         readable: 0,
+        firsts: [0u32; MAX_REPLICAS],
         lengths: [0usize; MAX_REPLICAS],
         conditions: [0u8; SURVEY_SLOTS],
         epochs: [0u32; SURVEY_SLOTS],
@@ -84,6 +110,14 @@ pub fn view_cluster(cluster: &[u8], shape: Shape, leading: usize, present: u32) 
         return ClusterView { refusal, survey };
     }
     let survey = survey_cluster(cluster, shape, present);
-    let refusal = leader_refusal(survey.readable, shape.n, leading);
+    let n = shape.n;
+    let unled = leader_refusal(survey.readable, n, leading);
+    if unled != 0 {
+        return ClusterView {
+            refusal: unled,
+            survey,
+        };
+    }
+    let refusal = firsts_refusal(survey, n, leading - 1);
     ClusterView { refusal, survey }
 }

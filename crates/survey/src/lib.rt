@@ -59,9 +59,10 @@ fn copy_slots(
 fn survey_cluster(cluster: &[u8], shape: Shape, present: u32) -> Survey
     requires { ⌜ (isSize (shape .n) ≡ true) × (isSlots (shape .m) ≡ true) × (length (now cluster) ≡ imageAt shape (shape .n)) ⌝ }
     ensures { λ r. ⌜ ((leading : ℕ) → Surveyed (shape .n) (shape .m) (viewsIn (settingOf shape leading present) (now (cluster .entry)))
-        (r .readable) (r .lengths) (r .conditions) (r .epochs)) ⌝ }
+        (r .readable) (r .firsts) (r .lengths) (r .conditions) (r .epochs)) ⌝ }
 {
     let mut readable: u32 = 0;
+    let mut firsts = [0u32; MAX_REPLICAS];
     let mut lengths = [0usize; MAX_REPLICAS];
     let mut conditions = [0u8; SURVEY_SLOTS];
     let mut epochs = [0u32; SURVEY_SLOTS];
@@ -77,12 +78,14 @@ fn survey_cluster(cluster: &[u8], shape: Shape, present: u32) -> Survey
             continue 'replicas;
         }
         readable = insert(readable, c);
+        firsts[c] = view.first;
         lengths[c] = view.length;
         copy_slots(&mut conditions, &mut epochs, c, view);
         c += 1;
     }
     Survey {
         readable,
+        firsts,
         lengths,
         conditions,
         epochs,

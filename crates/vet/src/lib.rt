@@ -1,15 +1,19 @@
-// Refusals of one image: of what a call names (1 to 3), and of what its scan holds (5 to 7).
+// Refusals of one image: of what a call names (1 to 3, and 20 of a fresh one), and of what its scan holds (5 to 7).
 ghost use Prim.Native.Nat.{_≤_};
 ghost use mathlib.Core.Path.{_≡_};
 ghost use mathlib.Core.Bool.{not};
 ghost use lib.ListN.{length};
-ghost use Rattle.image.specs.View.{isSize, callRefusal};
+ghost use Rattle.image.specs.View.{isSize, isEdition, namedRefusal, callRefusal};
+ghost use Rattle.image.specs.Append.{formatRefusal};
 ghost use Rattle.image.specs.Scan.{lengthIn, noGapIn, noneLostIn, risingIn, scanRefusal};
 use image::MAX_REPLICAS;
 use image::MAX_SLOTS;
 use image::MIN_REPLICAS;
 use image::condition;
+use locate::NEW_EDITION;
+use locate::OLD_EDITION;
 use locate::image_size;
+use locate::is_first;
 use record::Shape;
 
 // Whether a cluster may have n replicas.
@@ -25,12 +29,26 @@ pub fn is_size(n: usize) -> bool
     true
 }
 
-// Refusals 1 to 3: what the caller names, and the size of the buffer.
-pub fn call_refusal(shape: Shape, replica: usize, size: usize) -> u8
-    ensures { λ r. ⌜ r ≡ callRefusal shape replica size ⌝ }
+// Whether there is such an edition.
+pub fn is_edition(edition: usize) -> bool
+    ensures { λ r. ⌜ r ≡ isEdition edition ⌝ }
+{
+    if edition < OLD_EDITION {
+        return false;
+    }
+    if NEW_EDITION < edition {
+        return false;
+    }
+    true
+}
+
+// Refusals 1 and 2: what the caller names.
+pub fn named_refusal(shape: Shape, replica: usize) -> u8
+    ensures { λ r. ⌜ r ≡ namedRefusal shape replica ⌝ }
 {
     let n = shape.n;
     let m = shape.m;
+    let edition = shape.edition;
     if m < 1 {
         return 1;
     }
@@ -40,13 +58,46 @@ pub fn call_refusal(shape: Shape, replica: usize, size: usize) -> u8
     if !is_size(n) {
         return 2;
     }
+    if !is_edition(edition) {
+        return 2;
+    }
     if replica < 1 {
         return 2;
     }
     if n < replica {
         return 2;
     }
-    if size != image_size(shape, replica) {
+    0
+}
+
+// Refusals 1 to 3: what the caller names, and the size of the buffer.
+pub fn call_refusal(shape: Shape, replica: usize, size: usize) -> u8
+    ensures { λ r. ⌜ r ≡ callRefusal shape replica size ⌝ }
+{
+    let named = named_refusal(shape, replica);
+    if named != 0 {
+        return named;
+    }
+    if size == image_size(shape, replica) {
+        return 0;
+    }
+    3
+}
+
+// The refusals of a fresh image: 1 and 2, then 20 if its log may not begin at that index, and then 3.
+pub fn format_refusal(shape: Shape, replica: usize, first: u32, size: usize) -> u8
+    ensures { λ r. ⌜ r ≡ formatRefusal shape replica first size ⌝ }
+{
+    let unnamed = named_refusal(shape, replica);
+    if unnamed != 0 {
+        return unnamed;
+    }
+    let begins = is_first(shape, first as u64);
+    let whole = image_size(shape, replica);
+    if !begins {
+        return 20;
+    }
+    if size != whole {
         return 3;
     }
     0

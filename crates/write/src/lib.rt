@@ -4,10 +4,12 @@ ghost use mathlib.Core.Path.{_≡_};
 ghost use lib.ListN.{length, take};
 ghost use Rattle.slices.specs.Parts.{spliced};
 ghost use Rattle.record.specs.Layout.{headerSize, recordSize, entrySize, maxPayload, headerBytes, recordBytes, blankRecord, entryBytes, freshEntry};
-ghost use Rattle.record.specs.Seal.{sealOf};
+ghost use Rattle.record.specs.Seal.{headerFront, sealOf};
 use locate::BLANK_SIZE;
 use locate::EDITION_AT;
 use locate::ENTRY_SIZE;
+use locate::FIRST_AT;
+use locate::FIRST_SEAL_AT;
 use locate::FRONT_SIZE;
 use locate::HEADER_SEAL_AT;
 use locate::INDEX_AT;
@@ -19,6 +21,7 @@ use locate::REPLICA_AT;
 use locate::REPLICAS_AT;
 use locate::SLOTS_AT;
 use locate::SMALL_WIDTH;
+use locate::gives_first;
 use locate::header_size;
 use record::Shape;
 
@@ -32,16 +35,29 @@ fn put_seal(s: &mut [u8], at: usize)
     s[at + NUMBER_WIDTH] = b'\n';
 }
 
-// Writes the header of replica `replica` of a cluster of this shape.
-pub fn write_header(s: &mut [u8], shape: Shape, replica: usize)
-    requires { ⌜ length (now s) ≡ headerSize shape ⌝ }
-    ensures { λ _. ⌜ now (s .exit) ≡ headerBytes shape replica ⌝ }
+// Writes what a header begins with: its word, the edition, the replica, n and m.
+fn put_front(s: &mut [u8], shape: Shape, replica: usize)
+    requires { ⌜ 16 ≤ length (now s) ⌝ }
+    ensures { λ _. ⌜ take 16 (now (s .exit)) ≡ headerFront shape replica ⌝ }
 {
     copy::put_bytes(s, 0, b"rope");
-    spell::put_number(s, EDITION_AT, SMALL_WIDTH, 1);
+    spell::put_number(s, EDITION_AT, SMALL_WIDTH, shape.edition as u64);
     spell::put_number(s, REPLICA_AT, SMALL_WIDTH, replica as u64);
     spell::put_number(s, REPLICAS_AT, SMALL_WIDTH, shape.n as u64);
     spell::put_number(s, SLOTS_AT, SMALL_WIDTH, shape.m as u64);
+}
+
+// Writes the header of replica `replica` of a cluster of this shape, whose first slot has index `first`.
+pub fn write_header(s: &mut [u8], shape: Shape, replica: usize, first: u32)
+    requires { ⌜ length (now s) ≡ headerSize shape ⌝ }
+    ensures { λ _. ⌜ now (s .exit) ≡ headerBytes shape replica first ⌝ }
+{
+    put_front(s, shape, replica);
+    if gives_first(shape) {
+        spell::put_number(s, FIRST_AT, NUMBER_WIDTH, first as u64);
+        put_seal(s, FIRST_SEAL_AT);
+        return;
+    }
     put_seal(s, HEADER_SEAL_AT);
 }
 
@@ -98,13 +114,13 @@ pub fn write_fresh_entry(s: &mut [u8])
     copy::fill_bytes(s, b' ');
 }
 
-// Writes the header of replica `replica` of a cluster of this shape, at the image's beginning.
-pub fn put_header(image: &mut [u8], shape: Shape, replica: usize)
+// Writes the header of replica `replica` of a cluster of this shape, whose first slot has index `first`, at the image's beginning.
+pub fn put_header(image: &mut [u8], shape: Shape, replica: usize, first: u32)
     requires { ⌜ headerSize shape ≤ length (now image) ⌝ }
-    ensures { λ _. ⌜ now (image .exit) ≡ spliced (now (image .entry)) 0 (headerBytes shape replica) ⌝ }
+    ensures { λ _. ⌜ now (image .exit) ≡ spliced (now (image .entry)) 0 (headerBytes shape replica first) ⌝ }
 {
     let e = header_size(shape);
-    write_header(&mut image[0..e], shape, replica);
+    write_header(&mut image[0..e], shape, replica, first);
 }
 
 // Writes the record of an epoch and an index at `at`.

@@ -1,16 +1,14 @@
 //! A cluster.
 
 use super::{accepted, Code};
-use crate::model::{Answer, Refusal, ReplicaRow, RunAnswer, RunEnd, StepAnswer, StoreKind};
+use crate::model::{Answer, Refusal, ReplicaRow, RunAnswer, RunEnd, Shape, StepAnswer, StoreKind};
 use crate::proved::clusters;
 
 impl Code {
-    #[allow(clippy::too_many_arguments)]
     pub fn plan(
         &self,
         cluster: &[u8],
-        n: usize,
-        m: usize,
+        shape: Shape,
         leader: usize,
         present: u32,
         plan: &mut [u8],
@@ -20,8 +18,7 @@ impl Code {
         let (mut status, mut number) = (99, 0);
         let refusal = (self.side.plan)(
             cluster,
-            n,
-            m,
+            shape,
             leader,
             present,
             plan,
@@ -43,16 +40,14 @@ impl Code {
     pub fn step(
         &self,
         cluster: &mut [u8],
-        n: usize,
-        m: usize,
+        shape: Shape,
         leader: usize,
         present: u32,
     ) -> Result<StepAnswer, Refusal> {
         let (mut status, mut replica, mut slot, mut kind) = (99, 0, 0, 0);
         accepted((self.side.step)(
             cluster,
-            n,
-            m,
+            shape,
             leader,
             present,
             &mut status,
@@ -75,8 +70,7 @@ impl Code {
     pub fn run(
         &self,
         cluster: &mut [u8],
-        n: usize,
-        m: usize,
+        shape: Shape,
         leader: usize,
         present: u32,
         budget: u64,
@@ -84,8 +78,7 @@ impl Code {
         let (mut status, mut stores, mut slot) = (99, 99, 0);
         accepted((self.side.run)(
             cluster,
-            n,
-            m,
+            shape,
             leader,
             present,
             budget,

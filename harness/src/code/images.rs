@@ -1,7 +1,7 @@
 //! One image.
 
 use super::{accepted, Code};
-use crate::model::{Log, Refusal, Verdict};
+use crate::model::{Log, Refusal, Shape, Verdict};
 
 /// What a number holds before a call hands it out.
 const UNSET: usize = usize::MAX;
@@ -10,55 +10,49 @@ impl Code {
     pub fn fresh_image(
         &self,
         image: &mut [u8],
+        shape: Shape,
         replica: usize,
-        n: usize,
-        m: usize,
+        first: u32,
     ) -> Result<(), Refusal> {
-        accepted((self.side.format)(image, replica, n, m))
+        accepted((self.side.format)(image, shape, replica, first))
     }
 
     pub fn append(
         &self,
         image: &mut [u8],
+        shape: Shape,
         replica: usize,
-        n: usize,
-        m: usize,
         epoch: u32,
         payload: &[u8],
     ) -> Result<usize, Refusal> {
         let mut slot = UNSET;
-        let answer = (self.side.append)(image, replica, n, m, epoch, payload, &mut slot);
+        let answer = (self.side.append)(image, shape, replica, epoch, payload, &mut slot);
         accepted(answer).map(|()| slot)
     }
 
     pub fn read(
         &self,
         image: &[u8],
+        shape: Shape,
         replica: usize,
-        n: usize,
-        m: usize,
         epochs: &mut [u32],
         verdicts: &mut [u8],
-    ) -> Result<usize, Refusal> {
-        let mut length = UNSET;
-        let answer = (self.side.read)(image, replica, n, m, epochs, verdicts, &mut length);
-        accepted(answer).map(|()| length)
+    ) -> Result<(usize, u32), Refusal> {
+        let (mut length, mut first) = (UNSET, 0);
+        let (used, begins) = (&mut length, &mut first);
+        let answer = (self.side.read)(image, shape, replica, epochs, verdicts, used, begins);
+        accepted(answer).map(|()| (length, first))
     }
 
     /// What a read says of the whole image. Wrong numbers get small buffers.
-    pub fn judge_image(
-        &self,
-        image: &[u8],
-        replica: usize,
-        n: usize,
-        m: usize,
-    ) -> Result<Log, Refusal> {
-        let mut epochs = vec![0; m.min(1000)];
-        let mut verdicts = vec![99; m.min(1000)];
-        let length = self.read(image, replica, n, m, &mut epochs, &mut verdicts)?;
+    pub fn judge_image(&self, image: &[u8], shape: Shape, replica: usize) -> Result<Log, Refusal> {
+        let mut epochs = vec![0; shape.m.min(1000)];
+        let mut verdicts = vec![99; shape.m.min(1000)];
+        let (length, first) = self.read(image, shape, replica, &mut epochs, &mut verdicts)?;
         let verdicts = verdicts.into_iter().map(verdict).collect();
         Ok(Log {
             length,
+            first,
             epochs,
             verdicts,
         })
@@ -67,14 +61,13 @@ impl Code {
     pub fn has_payload(
         &self,
         image: &[u8],
+        shape: Shape,
         replica: usize,
-        n: usize,
-        m: usize,
         slot: usize,
     ) -> Result<bool, Refusal> {
         let mut has = 99;
         accepted((self.side.has_payload)(
-            image, replica, n, m, slot, &mut has,
+            image, shape, replica, slot, &mut has,
         ))?;
         match has {
             0 => Ok(false),
@@ -87,13 +80,12 @@ impl Code {
     pub fn payload<'a>(
         &self,
         image: &'a [u8],
+        shape: Shape,
         replica: usize,
-        n: usize,
-        m: usize,
         slot: usize,
     ) -> &'a [u8] {
         let (mut at, mut size) = (0, 0);
-        (self.side.payload)(image, replica, n, m, slot, &mut at, &mut size);
+        (self.side.payload)(image, shape, replica, slot, &mut at, &mut size);
         &image[at..at + size]
     }
 }

@@ -1,8 +1,8 @@
 //! The pieces of an image. Where a wrong length is an answer, no length is wrong here.
 
 use super::Code;
-use crate::model::{EntryState, RecordState, ENTRY_LEN, HEADER_LEN, RECORD_LEN};
-use crate::proved::{Column, Entry, Record, Written};
+use crate::model::{header_len, EntryState, RecordState, Shape, ENTRY_LEN, RECORD_LEN};
+use crate::proved::{Column, Entry, Header, Record, Written};
 
 /// Where the payload begins in an entry.
 const PAYLOAD_AT: usize = 26;
@@ -26,19 +26,24 @@ impl Code {
         }
     }
 
-    pub fn write_header(&self, replica: usize, n: usize, m: usize) -> [u8; HEADER_LEN] {
-        let mut header = [0; HEADER_LEN];
-        written((self.side.write_header)(&mut header, replica, n, m));
+    pub fn write_header(&self, shape: Shape, replica: usize, first: u32) -> Vec<u8> {
+        let mut header = vec![0; header_len(shape)];
+        written((self.side.write_header)(&mut header, shape, replica, first));
         header
     }
 
-    pub fn header_is_good(&self, header: &[u8], replica: usize, n: usize, m: usize) -> bool {
-        (self.side.is_header)(header, replica, n, m)
+    /// The first index of a good header.
+    pub fn judge_header(&self, header: &[u8], shape: Shape, replica: usize) -> Option<u32> {
+        let mut first = 0;
+        match (self.side.judge_header)(header, shape, replica, &mut first) {
+            Header::Good => Some(first),
+            Header::Other => None,
+        }
     }
 
-    pub fn write_record(&self, epoch: u32, slot: usize) -> [u8; RECORD_LEN] {
+    pub fn write_record(&self, epoch: u32, index: u32) -> [u8; RECORD_LEN] {
         let mut record = [0; RECORD_LEN];
-        written((self.side.write_record)(&mut record, epoch, slot as u32));
+        written((self.side.write_record)(&mut record, epoch, index));
         record
     }
 
@@ -48,9 +53,9 @@ impl Code {
         record
     }
 
-    pub fn judge_record(&self, record: &[u8], slot: usize) -> RecordState {
+    pub fn judge_record(&self, record: &[u8], index: u32) -> RecordState {
         let mut epoch = 0;
-        match (self.side.judge_record)(record, slot as u32, &mut epoch) {
+        match (self.side.judge_record)(record, index, &mut epoch) {
             Record::Good => RecordState::Good(epoch),
             Record::Blank => RecordState::Blank,
             Record::Bad => RecordState::Bad,
@@ -58,16 +63,16 @@ impl Code {
         }
     }
 
-    pub fn write_entry(&self, epoch: u32, slot: usize, payload: &[u8]) -> [u8; ENTRY_LEN] {
+    pub fn write_entry(&self, epoch: u32, index: u32, payload: &[u8]) -> [u8; ENTRY_LEN] {
         let mut entry = [0; ENTRY_LEN];
-        let answer = (self.side.write_entry)(&mut entry, epoch, slot as u32, payload);
+        let answer = (self.side.write_entry)(&mut entry, epoch, index, payload);
         written(answer);
         entry
     }
 
-    pub fn judge_entry<'a>(&self, entry: &'a [u8], slot: usize) -> EntryState<'a> {
+    pub fn judge_entry<'a>(&self, entry: &'a [u8], index: u32) -> EntryState<'a> {
         let (mut epoch, mut size) = (0, 0);
-        match (self.side.judge_entry)(entry, slot as u32, &mut epoch, &mut size) {
+        match (self.side.judge_entry)(entry, index, &mut epoch, &mut size) {
             Entry::Intact => EntryState::Intact(epoch, &entry[PAYLOAD_AT..PAYLOAD_AT + size]),
             Entry::Broken => EntryState::NotIntact,
             Entry::WrongLength => panic!("an entry of {} bytes", entry.len()),

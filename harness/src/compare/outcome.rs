@@ -4,7 +4,7 @@ use std::fmt::Debug;
 
 use crate::guarded::{Guarded, GuardedNumber, Number};
 use crate::proved::clusters::ReplicaRow;
-use crate::proved::{Column, Entry, Record, Written};
+use crate::proved::{Column, Entry, Header, Record, Written};
 
 /// What a call answers.
 #[derive(Clone, Copy, Debug, PartialEq, Eq)]
@@ -13,7 +13,7 @@ pub enum Answer {
     Number(u32),
     /// 0, or a refusal's number.
     Refusal(u8),
-    Flag(bool),
+    Header(Header),
     Written(Written),
     Column(Column),
     Record(Record),
@@ -27,7 +27,7 @@ impl Answer {
             Answer::Nothing => 0,
             Answer::Number(number) => number as usize,
             Answer::Refusal(number) => usize::from(number),
-            Answer::Flag(flag) => usize::from(flag),
+            Answer::Header(header) => header as usize,
             Answer::Written(written) => written as usize,
             Answer::Column(column) => column as usize,
             Answer::Record(record) => record as usize,

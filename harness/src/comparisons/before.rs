@@ -2,17 +2,18 @@
 //! apart.
 
 use crate::model::{
-    entry_offset, judge_entry, judge_record, record_offset, EntryState, RecordState, ENTRY_LEN,
-    RECORD_LEN,
+    entry_offset, judge_entry, judge_record, record_offset, EntryState, RecordState, Shape,
+    ENTRY_LEN, RECORD_LEN,
 };
 
-/// A slot's verdict in an image that is not refused, and whether its entry is intact.
-pub fn verdict(image: &[u8], m: usize, length: usize, slot: usize) -> (u8, bool) {
-    let record = &image[record_offset(slot)..][..RECORD_LEN];
-    let entry = &image[entry_offset(m, slot)..][..ENTRY_LEN];
-    let state = judge_entry(entry, slot);
+/// The verdict of a slot with this index in an image of this length that is not refused, and whether its
+/// entry is intact.
+pub fn verdict(image: &[u8], shape: Shape, length: usize, slot: usize, index: u32) -> (u8, bool) {
+    let record = &image[record_offset(shape, slot)..][..RECORD_LEN];
+    let entry = &image[entry_offset(shape, slot)..][..ENTRY_LEN];
+    let state = judge_entry(entry, index);
     let spaces = entry.iter().all(|&byte| byte == b' ');
-    let verdict = match (judge_record(record, slot), state) {
+    let verdict = match (judge_record(record, index), state) {
         (RecordState::Blank, _) if slot == length + 1 && !spaces => 5,
         (RecordState::Blank, _) => 0,
         (RecordState::Bad, _) => 2,

@@ -1,12 +1,15 @@
 //! The calls about a cluster.
 
-use super::one_of;
+use super::{first_kind, one_of, FIRST_KINDS};
 use crate::call::Call;
 use crate::compare::{agree, Outcome};
+use crate::generate::recovery::other_numbers;
 use crate::generate::{agreed_case, arbitrary_case, noise_cluster, plan_call, recovery_case};
 use crate::generate::{Case, Rng};
 use crate::model::planner::{reply, Reply};
-use crate::model::survey;
+use crate::model::{
+    cluster_len, header_len, image_offset, judge_header, survey, Shape, MAX_REPLICAS, MAX_SLOTS,
+};
 use crate::tally::{each_case, Tally};
 
 /// Plans by both, and counts how it went.
@@ -17,9 +20,54 @@ pub fn compare_plan(rng: &mut Rng, call: &Call, tally: &mut Tally) {
         0 => {
             count_plan(&outcome, tally);
             count_cut_by_half(call, &outcome, tally);
+            count_first(call, tally);
         }
         13 => count_lengths(call, tally),
-        _ => {}
+        refusal => count_editions(call, refusal, tally),
+    }
+}
+
+/// The shape, the leader, the present word and the cluster of a plan.
+fn plan_of(call: &Call) -> (Shape, usize, u32, &[u8]) {
+    let &Call::Plan {
+        n,
+        m,
+        edition,
+        leader,
+        present,
+        ref cluster,
+        ..
+    } = call
+    else {
+        panic!("{call} is no plan");
+    };
+    (Shape { n, m, edition }, leader, present, cluster)
+}
+
+/// The edition of a plan that is not refused, and where the leader's log begins.
+fn count_first(call: &Call, tally: &mut Tally) {
+    let (shape, leader, _, cluster) = plan_of(call);
+    let at = image_offset(shape, leader);
+    let header = &cluster[at..at + header_len(shape)];
+    let first = judge_header(header, shape, leader).expect("the leader is readable");
+    tally.count("edition", shape.edition);
+    tally.count("first", first_kind(shape, first));
+}
+
+/// The refusal of an edition that there is not, and of a cluster of the other one.
+fn count_editions(call: &Call, refusal: usize, tally: &mut Tally) {
+    let (shape, _, _, cluster) = plan_of(call);
+    if !(1..=2).contains(&shape.edition) {
+        tally.count("no edition", refusal);
+        return;
+    }
+    let other = Shape {
+        n: shape.n.min(MAX_REPLICAS),
+        m: shape.m.min(MAX_SLOTS),
+        edition: 3 - shape.edition,
+    };
+    if cluster.len() == cluster_len(other) {
+        tally.count("other edition", refusal);
     }
 }
 
@@ -44,24 +92,15 @@ fn count_plan(outcome: &Outcome, tally: &mut Tally) {
 
 /// For each n, whether a slot is cut by exactly half of n.
 fn count_cut_by_half(call: &Call, outcome: &Outcome, tally: &mut Tally) {
-    let Call::Plan {
-        n,
-        m,
-        leader,
-        present,
-        cluster,
-        ..
-    } = call
-    else {
-        panic!("{call} is no plan");
-    };
     let Some(at) = outcome.bytes("plan").iter().position(|&byte| byte == 4) else {
         return;
     };
-    let survey = survey(cluster, *n, *m, *leader, *present).expect("it was planned");
+    let (shape, leader, present, cluster) = plan_of(call);
+    let survey = survey(cluster, shape, leader, present).expect("it was planned");
+    let n = shape.n;
     let lacks = |&replica: &usize| reply(&survey, replica, at + 1) == Some(Reply::DontHave);
-    if 2 * (1..=*n).filter(lacks).count() == *n {
-        tally.count("cut by half of n", *n);
+    if 2 * (1..=n).filter(lacks).count() == n {
+        tally.count("cut by half of n", n);
     }
 }
 
@@ -84,9 +123,7 @@ fn some_case(rng: &mut Rng) -> Case {
         5..=7 => arbitrary_case(rng),
         _ => noise_cluster(rng),
     };
-    if rng.chance(1) {
-        case.leader = *rng.pick(&[0, 1, case.n, case.n.wrapping_add(1), 8, 32, 33, usize::MAX]);
-    }
+    other_numbers(rng, &mut case);
     case
 }
 
@@ -99,7 +136,11 @@ pub fn plans(seed: u64, clusters: u64) -> Tally {
     });
     assert_eq!(tally.all("refusal"), clusters);
     let some = one_of(2000, clusters);
-    tally.assert_each("refusal", &[0, 1, 2, 3, 11, 12, 13], some);
+    tally.assert_each("refusal", &[0, 1, 2, 3, 11, 12, 13, 21], some);
+    tally.assert_each("edition", &[1, 2], one_of(4, clusters));
+    tally.assert_each("first", &FIRST_KINDS, some);
+    tally.assert_each("no edition", &[2], some);
+    tally.assert_each("other edition", &[3], some);
     tally.assert_each("status", &[0, 1], some);
     let bytes = [0, 1, 2, 3, 4, 5, 11, 12, 13, 14, 15, 16, 17];
     tally.assert_each("plan byte", &bytes, some);
@@ -142,8 +183,9 @@ pub fn compare_recovery(rng: &mut Rng, case: &Case, tally: &mut Tally) {
     if let Some((run, status)) = compare_call(rng, &case.run(u64::MAX), tally) {
         assert!(status == 1 || run.number("stores") == stores);
         assert!(run.bytes("cluster") == recovered, "a run is not its steps");
-        tally.count("n", case.n);
-        tally.count("m", case.m);
+        tally.count("n", case.shape.n);
+        tally.count("m", case.shape.m);
+        tally.count("edition", case.shape.edition);
         for few in [1, 10, 100] {
             if stores >= few {
                 tally.count("stores", few as usize);
@@ -162,7 +204,9 @@ pub fn recoveries(seed: u64, clusters: u64) -> Tally {
         compare_recovery(rng, &case, tally);
     });
     let many = one_of(100, clusters);
-    tally.assert_each("refusal", &[0, 1, 2, 3, 11, 12], one_of(1000, clusters));
+    let refusals = [0, 1, 2, 3, 11, 12, 21];
+    tally.assert_each("refusal", &refusals, one_of(1000, clusters));
+    tally.assert_each("edition", &[1, 2], one_of(4, clusters));
     tally.assert_each("Step", &[0, 1, 2], many);
     tally.assert_each("Run", &[0, 1, 2], many);
     tally.assert_each("kind", &[1, 2, 3], many);

@@ -5,6 +5,7 @@ use crate::call::Call;
 use crate::compare::{agree, Answer};
 use crate::generate::piece_calls::*;
 use crate::generate::Rng;
+use crate::proved::Header;
 use crate::tally::{each_case, Tally};
 
 /// Makes the calls by both, and counts the kinds of their answers. A checksum is of one kind.
@@ -48,10 +49,24 @@ pub fn columns_read(seed: u64, cases: u64) -> Tally {
     tally
 }
 
+/// Of a good header its edition is counted as well, and whether it has the highest first index.
 pub fn headers(seed: u64, cases: u64) -> Tally {
-    let tally = compare(seed, cases, header_calls);
-    assert_covered(&tally, "IsHeader", cases, &[0, 1]);
+    let tally = each_case(seed, cases, |rng, tally| {
+        for call in header_calls(rng) {
+            let outcome = agree(rng, &call);
+            tally.count(call.name(), outcome.answer.code());
+            let good = outcome.answer == Answer::Header(Header::Good);
+            if let (true, Call::JudgeHeader { m, edition, .. }) = (good, call) {
+                tally.count("edition", edition);
+                let last = outcome.number("first") + m as u64 == 1 << 32;
+                tally.count("last index", usize::from(last));
+            }
+        }
+    });
+    assert_covered(&tally, "JudgeHeader", cases, &[0, 1]);
     assert_covered(&tally, "WriteHeader", cases, &[0, 1]);
+    tally.assert_each("edition", &[1, 2], one_of(30, cases));
+    tally.assert_each("last index", &[0, 1], one_of(100, cases));
     tally
 }
 

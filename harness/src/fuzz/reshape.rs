@@ -1,21 +1,20 @@
-//! The same image or cluster with fewer slots or replicas: what was written for a slot or a replica
-//! is written anew for its new number.
+//! The same image or cluster with fewer slots or replicas, in edition 1, or from index 1 on: what was
+//! written for a slot or a replica is written anew for its new number.
 
 use std::ops::Range;
 
 use crate::call::{Call, Field};
 use crate::model::{
-    cluster_len, entry_offset, header_is_good, image_len, judge_entry, judge_record, record_offset,
-    write_entry, write_header, write_record, EntryState, RecordState, BLANK_RECORD, ENTRY_LEN,
-    HEADER_LEN, MAX_SLOTS, RECORD_LEN,
+    cluster_len, entry_offset, header_len, image_len, index_of, judge_entry, judge_header,
+    judge_record, record_offset, write_entry, write_header, write_record, EntryState, RecordState,
+    Shape, BLANK_RECORD, ENTRY_LEN, MAX_SLOTS, RECORD_LEN,
 };
 
 /// The images of a call about one image or a cluster, if its numbers fit them.
 struct Images<'a> {
     /// The replica of the first image.
-    first: usize,
-    n: usize,
-    m: usize,
+    replica: usize,
+    shape: Shape,
     bytes: &'a mut Vec<u8>,
     /// All numbers by name.
     numbers: Vec<(&'static str, Field<'a>)>,
@@ -29,18 +28,24 @@ fn images(call: &mut Call) -> Option<Images<'_>> {
     let (name, Field::Bytes(bytes)) = numbers.swap_remove(at) else {
         return None;
     };
-    let (n, m) = (number(&numbers, "n")?, number(&numbers, "m")?);
-    if !(1..=MAX_SLOTS).contains(&m) || !(1..=7).contains(&n) {
+    let shape = Shape {
+        n: number(&numbers, "n")?,
+        m: number(&numbers, "m")?,
+        edition: number(&numbers, "edition")?,
+    };
+    let fits = (1..=MAX_SLOTS).contains(&shape.m)
+        && (1..=7).contains(&shape.n)
+        && (1..=2).contains(&shape.edition);
+    if !fits {
         return None;
     }
-    let (first, length) = match name {
-        "image" => (number(&numbers, "replica")?, image_len(m)),
-        _ => (1, cluster_len(n, m)),
+    let (replica, length) = match name {
+        "image" => (number(&numbers, "replica")?, image_len(shape)),
+        _ => (1, cluster_len(shape)),
     };
-    (bytes.len() == length && first < 1000).then_some(Images {
-        first,
-        n,
-        m,
+    (bytes.len() == length && replica < 1000).then_some(Images {
+        replica,
+        shape,
         bytes,
         numbers,
     })
@@ -60,54 +65,57 @@ impl Images<'_> {
             }
         }
     }
+
+    /// Every image with its replica, by number.
+    fn each(&self) -> impl Iterator<Item = (usize, &[u8])> {
+        let images = self.bytes.chunks(image_len(self.shape));
+        (self.replica..).zip(images)
+    }
+
+    /// All slots, as `rewritten` takes them.
+    fn slots(&self) -> Vec<usize> {
+        (1..=self.shape.m).collect()
+    }
 }
 
-/// How many slots can be taken out.
-pub fn slots(call: &mut Call) -> usize {
-    images(call).map_or(0, |images| images.m)
+/// The first index of an image; of one whose header is not good it is taken for 1.
+fn first_of(image: &[u8], shape: Shape, replica: usize) -> u32 {
+    judge_header(&image[..header_len(shape)], shape, replica).unwrap_or(1)
 }
 
-/// Takes out some slots of every image. One always stays.
-pub fn without_slots(call: &mut Call, out: Range<usize>) {
-    let Some(mut images) = images(call) else {
-        return;
+/// What an image is written for.
+#[derive(Clone, Copy)]
+struct Place {
+    shape: Shape,
+    replica: usize,
+    first: u32,
+}
+
+/// The image of some slots, in this order, written for another place. A good header, good records and
+/// intact entries are written anew; other bytes stay, as many of them as there is room for.
+fn rewritten(image: &[u8], shape: Shape, replica: usize, kept: &[usize], new: Place) -> Vec<u8> {
+    let first = first_of(image, shape, replica);
+    let header = &image[..header_len(shape)];
+    let mut bytes = match judge_header(header, shape, replica) {
+        Some(_) => write_header(new.shape, new.replica, new.first),
+        None => header[..header_len(new.shape)].to_vec(),
     };
-    let Images { first, n, m, .. } = images;
-    let kept: Vec<usize> = (1..=m).filter(|slot| !out.contains(&(slot - 1))).collect();
-    if kept.is_empty() {
-        return;
-    }
-    let mut bytes = Vec::new();
-    for (at, image) in images.bytes.chunks(image_len(m)).enumerate() {
-        bytes.extend(image_of_slots(image, first + at, n, m, &kept));
-    }
-    *images.bytes = bytes;
-    // Lent buffers that had the right length keep it.
-    for name in ["slots", "epochs", "verdicts"] {
-        if number(&images.numbers, name) == Some(m) {
-            images.set(name, kept.len());
-        }
-    }
-    images.set("m", kept.len());
-}
-
-/// The image of some slots alone.
-fn image_of_slots(image: &[u8], replica: usize, n: usize, m: usize, kept: &[usize]) -> Vec<u8> {
-    let mut bytes = header_for(image, (replica, n, m), (replica, n, kept.len()));
     for (at, &slot) in kept.iter().enumerate() {
-        let from = record_offset(slot);
+        let from = record_offset(shape, slot);
         let record = &image[from..from + RECORD_LEN];
-        match judge_record(record, slot) {
-            RecordState::Good(epoch) => bytes.extend(write_record(epoch, at + 1)),
+        match judge_record(record, index_of(first, slot)) {
+            RecordState::Good(epoch) => {
+                bytes.extend(write_record(epoch, index_of(new.first, at + 1)));
+            }
             _ => bytes.extend(record),
         }
     }
     for (at, &slot) in kept.iter().enumerate() {
-        let from = entry_offset(m, slot);
+        let from = entry_offset(shape, slot);
         let entry = &image[from..from + ENTRY_LEN];
-        match judge_entry(entry, slot) {
+        match judge_entry(entry, index_of(first, slot)) {
             EntryState::Intact(epoch, payload) => {
-                bytes.extend(write_entry(epoch, at + 1, payload));
+                bytes.extend(write_entry(epoch, index_of(new.first, at + 1), payload));
             }
             EntryState::NotIntact => bytes.extend(entry),
         }
@@ -115,14 +123,40 @@ fn image_of_slots(image: &[u8], replica: usize, n: usize, m: usize, kept: &[usiz
     bytes
 }
 
-/// A good header is written for the new numbers; another one stays.
-fn header_for(image: &[u8], old: (usize, usize, usize), new: (usize, usize, usize)) -> Vec<u8> {
-    let header = &image[..HEADER_LEN];
-    if header_is_good(header, old.0, old.1, old.2) {
-        write_header(new.0, new.1, new.2).to_vec()
-    } else {
-        header.to_vec()
+/// How many slots can be taken out.
+pub fn slots(call: &mut Call) -> usize {
+    images(call).map_or(0, |images| images.shape.m)
+}
+
+/// Takes out some slots of every image. One always stays.
+pub fn without_slots(call: &mut Call, out: Range<usize>) {
+    let Some(mut images) = images(call) else {
+        return;
+    };
+    let shape = images.shape;
+    let mut kept = images.slots();
+    kept.retain(|slot| !out.contains(&(slot - 1)));
+    if kept.is_empty() {
+        return;
     }
+    let m = kept.len();
+    let mut bytes = Vec::new();
+    for (replica, image) in images.each() {
+        let new = Place {
+            shape: Shape { m, ..shape },
+            replica,
+            first: first_of(image, shape, replica),
+        };
+        bytes.extend(rewritten(image, shape, replica, &kept, new));
+    }
+    *images.bytes = bytes;
+    // Lent buffers that had the right length keep it.
+    for name in ["slots", "epochs", "verdicts"] {
+        if number(&images.numbers, name) == Some(shape.m) {
+            images.set(name, m);
+        }
+    }
+    images.set("m", m);
 }
 
 /// Makes some slots unused in every image: blank records and fresh entries.
@@ -130,12 +164,12 @@ pub fn with_unused_slots(call: &mut Call, unused: Range<usize>) {
     let Some(images) = images(call) else {
         return;
     };
-    let m = images.m;
-    for image in images.bytes.chunks_mut(image_len(m)) {
+    let shape = images.shape;
+    for image in images.bytes.chunks_mut(image_len(shape)) {
         for slot in unused.start + 1..=unused.end {
-            let at = record_offset(slot);
+            let at = record_offset(shape, slot);
             image[at..at + RECORD_LEN].copy_from_slice(&BLANK_RECORD);
-            let at = entry_offset(m, slot);
+            let at = entry_offset(shape, slot);
             image[at..at + ENTRY_LEN].fill(b' ');
         }
     }
@@ -146,13 +180,17 @@ pub fn with_empty_payloads(call: &mut Call, emptied: Range<usize>) {
     let Some(images) = images(call) else {
         return;
     };
-    let m = images.m;
-    for image in images.bytes.chunks_mut(image_len(m)) {
+    let shape = images.shape;
+    let firsts: Vec<u32> = images
+        .each()
+        .map(|(replica, image)| first_of(image, shape, replica))
+        .collect();
+    for (image, first) in images.bytes.chunks_mut(image_len(shape)).zip(firsts) {
         for slot in emptied.start + 1..=emptied.end {
-            let at = entry_offset(m, slot);
+            let (at, index) = (entry_offset(shape, slot), index_of(first, slot));
             let entry = &mut image[at..at + ENTRY_LEN];
-            if let EntryState::Intact(epoch, _) = judge_entry(entry, slot) {
-                entry.copy_from_slice(&write_entry(epoch, slot, b""));
+            if let EntryState::Intact(epoch, _) = judge_entry(entry, index) {
+                entry.copy_from_slice(&write_entry(epoch, index, b""));
             }
         }
     }
@@ -163,14 +201,50 @@ pub fn of_first_replica(call: &mut Call) {
     let Some(mut images) = images(call) else {
         return;
     };
-    let Images { first, n, m, .. } = images;
+    let (shape, replica) = (images.shape, images.replica);
     if number(&images.numbers, "replica").is_none() {
         return;
     }
-    let header = header_for(images.bytes, (first, n, m), (1, 3, m));
-    images.bytes[..HEADER_LEN].copy_from_slice(&header);
+    let new = Place {
+        shape: Shape { n: 3, ..shape },
+        replica: 1,
+        first: first_of(images.bytes, shape, replica),
+    };
+    *images.bytes = rewritten(images.bytes, shape, replica, &images.slots(), new);
     images.set("replica", 1);
     images.set("n", 3);
+}
+
+/// Makes every image one of edition 1.
+pub fn of_edition_1(call: &mut Call) {
+    from_index_1_in(call, 1);
+}
+
+/// Makes every log begin at index 1.
+pub fn from_index_1(call: &mut Call) {
+    from_index_1_in(call, 2);
+}
+
+/// The same from index 1 on in an edition, if it is of edition 2.
+fn from_index_1_in(call: &mut Call, edition: usize) {
+    let Some(mut images) = images(call) else {
+        return;
+    };
+    let (shape, kept) = (images.shape, images.slots());
+    if shape.edition != 2 {
+        return;
+    }
+    let mut bytes = Vec::new();
+    for (replica, image) in images.each() {
+        let new = Place {
+            shape: Shape { edition, ..shape },
+            replica,
+            first: 1,
+        };
+        bytes.extend(rewritten(image, shape, replica, &kept, new));
+    }
+    *images.bytes = bytes;
+    images.set("edition", edition);
 }
 
 /// How many pairs of replicas can be taken out of a cluster.
@@ -184,9 +258,9 @@ fn pairs(images: &Images) -> Vec<(usize, usize)> {
     let Some(leader) = number(&images.numbers, "leader") else {
         return pairs;
     };
-    for high in 1..=images.n {
+    for high in 1..=images.shape.n {
         for low in 1..high {
-            if images.n >= 5 && low != leader && high != leader {
+            if images.shape.n >= 5 && low != leader && high != leader {
                 pairs.push((low, high));
             }
         }
@@ -202,20 +276,23 @@ pub fn without_replicas(call: &mut Call, out: Range<usize>) {
     let (Some(&(low, high)), 1) = (pairs(&images).get(out.start), out.len()) else {
         return;
     };
-    let Images { n, m, .. } = images;
-    let stays = |replica: &usize| *replica != low && *replica != high;
+    let (shape, kept) = (images.shape, images.slots());
+    let n = shape.n - 2;
+    let stay = |(replica, _): &(usize, &[u8])| *replica != low && *replica != high;
     let mut bytes = Vec::new();
-    for (at, replica) in (1..=n).filter(stays).enumerate() {
-        let from = (replica - 1) * image_len(m);
-        let image = &images.bytes[from..from + image_len(m)];
-        bytes.extend(header_for(image, (replica, n, m), (at + 1, n - 2, m)));
-        bytes.extend(&image[HEADER_LEN..]);
+    for (at, (replica, image)) in images.each().filter(stay).enumerate() {
+        let new = Place {
+            shape: Shape { n, ..shape },
+            replica: at + 1,
+            first: first_of(image, shape, replica),
+        };
+        bytes.extend(rewritten(image, shape, replica, &kept, new));
     }
     *images.bytes = bytes;
-    if number(&images.numbers, "rows") == Some(n) {
-        images.set("rows", n - 2);
+    if number(&images.numbers, "rows") == Some(shape.n) {
+        images.set("rows", n);
     }
-    images.set("n", n - 2);
+    images.set("n", n);
     let number_of = |name| number(&images.numbers, name).unwrap_or(0);
     let below = |replica: usize| usize::from(low < replica) + usize::from(high < replica);
     let (leader, present) = (number_of("leader"), number_of("present"));

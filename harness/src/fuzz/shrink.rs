@@ -1,4 +1,4 @@
-//! Making a failing call smaller: fewer slots, fewer bytes, zeroed bytes, lower numbers.
+//! Making a failing call smaller: edition 1, fewer slots, fewer bytes, zeroed bytes, lower numbers.
 
 use std::ops::Range;
 use std::time::{Duration, Instant};
@@ -8,6 +8,13 @@ use crate::call::{Call, Field};
 
 /// A call of many stores takes long; then this is enough.
 const TIME: Duration = Duration::from_secs(60);
+
+/// What is made of all images at once.
+const WHOLE: [fn(&mut Call); 3] = [
+    reshape::of_first_replica,
+    reshape::of_edition_1,
+    reshape::from_index_1,
+];
 
 /// The smallest call that was found to fail still, with its old contents.
 pub fn shrink(call: Call, old: u64, fails: impl Fn(&Call, u64) -> bool) -> (Call, u64) {
@@ -20,9 +27,11 @@ pub fn shrink(call: Call, old: u64, fails: impl Fn(&Call, u64) -> bool) -> (Call
     };
     loop {
         let before = shrinker.size;
-        let mut of_first_replica = shrinker.call.clone();
-        reshape::of_first_replica(&mut of_first_replica);
-        shrinker.attempt(of_first_replica);
+        for reshape in WHOLE {
+            let mut reshaped = shrinker.call.clone();
+            reshape(&mut reshaped);
+            shrinker.attempt(reshaped);
+        }
         shrinker.each_part(reshape::replicas, reshape::without_replicas);
         shrinker.each_part(reshape::slots, reshape::without_slots);
         shrinker.each_part(reshape::slots, reshape::with_unused_slots);

@@ -1,47 +1,56 @@
 //! Arbitrary clusters: every image may be read, but nothing else is supposed.
 
 use super::build::Cluster;
-use super::damage::{damage_entry, damage_header, damage_record, some_entry, some_payload};
-use super::history::{some_present, some_replica_count, some_slot_count};
+use super::damage::{
+    damage_entry, damage_header, damage_record, header_of, some_entry, some_payload,
+};
+use super::history::some_present;
 use super::rng::Rng;
+use super::shapes::{some_first, some_firsts, some_shape};
 use super::Case;
+use crate::model::Shape;
 
 /// A cluster whose logs need not agree.
 pub fn arbitrary_case(rng: &mut Rng) -> Case {
-    let n = some_replica_count(rng);
-    let m = some_slot_count(rng);
-    arbitrary_case_of(rng, n, m)
+    let shape = some_shape(rng);
+    arbitrary_case_of(rng, shape)
 }
 
-/// The same with n replicas of m slots.
-pub fn arbitrary_case_of(rng: &mut Rng, n: usize, m: usize) -> Case {
-    let leader = rng.between(1, n);
-    let mut cluster = Cluster::fresh(n, m);
-    for replica in 1..=n {
+/// The same of this shape.
+pub fn arbitrary_case_of(rng: &mut Rng, shape: Shape) -> Case {
+    let leader = rng.between(1, shape.n);
+    let firsts = some_firsts(rng, shape);
+    let mut cluster = Cluster::of_firsts(shape, &firsts);
+    for replica in 1..=shape.n {
         fill_image(rng, &mut cluster, replica);
         if rng.chance(3) {
-            damage_header(rng, cluster.header_mut(replica), replica, n, m);
+            damage_header(rng, cluster.header_mut(replica), shape, replica);
+        }
+        if rng.chance(1) {
+            // A good header of another first index above the records and entries of this one.
+            let header = header_of(shape, replica, some_first(rng, shape).into());
+            cluster.header_mut(replica).copy_from_slice(&header);
         }
     }
     Case {
-        n,
-        m,
+        shape,
         leader,
-        present: some_present(rng, n, leader),
+        present: some_present(rng, &firsts, leader),
         cluster: cluster.bytes,
     }
 }
 
 /// Used slots under epochs that never fall, then anything in the unused ones.
 fn fill_image(rng: &mut Rng, cluster: &mut Cluster, replica: usize) {
-    let m = cluster.m;
+    let m = cluster.shape.m;
     let length = if rng.chance(50) { m } else { rng.below(m + 1) };
     let rate = *rng.pick(&[0, 20, 50, 90]);
     let mut epoch = 1 + rng.below(2) as u32;
     for slot in 1..=m {
+        let index = cluster.index(replica, slot);
         if slot > length {
             if rng.chance(50) {
-                let bytes = some_entry(rng, slot, epoch);
+                let bytes = some_entry(rng, index, epoch);
                 cluster.entry_mut(replica, slot).copy_from_slice(&bytes);
             }
             continue;
@@ -52,9 +61,9 @@ fn fill_image(rng: &mut Rng, cluster: &mut Cluster, replica: usize) {
         cluster.put(replica, slot, epoch, &some_payload(rng));
         if rng.chance(rate) {
             if rng.chance(30) {
-                damage_record(rng, cluster.record_mut(replica, slot), slot);
+                damage_record(rng, cluster.record_mut(replica, slot), index);
             } else {
-                damage_entry(rng, cluster.entry_mut(replica, slot), slot, epoch);
+                damage_entry(rng, cluster.entry_mut(replica, slot), index, epoch);
             }
         }
     }

@@ -61,8 +61,8 @@ fn about_a_cluster(rng: &mut Rng) -> [Call; 3] {
 /// A plan and a table are lent, each of the wrong length now and then.
 pub fn plan_call(rng: &mut Rng, case: &Case) -> Call {
     // Neither is ever as long as a number may be.
-    let slots = some_length(rng, case.m.min(100), MAX_SLOTS);
-    let rows = some_length(rng, case.n.min(8), 7);
+    let slots = some_length(rng, case.shape.m.min(100), MAX_SLOTS);
+    let rows = some_length(rng, case.shape.n.min(8), 7);
     case.plan(slots, rows)
 }
 
@@ -80,17 +80,20 @@ impl ImageCalls {
     pub fn format(&self) -> Call {
         Call::Format {
             length: self.image.len(),
+            n: self.shape.n,
+            m: self.shape.m,
+            edition: self.shape.edition,
             replica: self.replica,
-            n: self.n,
-            m: self.m,
+            first: self.first,
         }
     }
 
     pub fn append(&self) -> Call {
         Call::Append {
+            n: self.shape.n,
+            m: self.shape.m,
+            edition: self.shape.edition,
             replica: self.replica,
-            n: self.n,
-            m: self.m,
             epoch: self.epoch,
             payload: self.payload.clone(),
             image: self.image.clone(),
@@ -99,9 +102,10 @@ impl ImageCalls {
 
     pub fn read(&self) -> Call {
         Call::Read {
+            n: self.shape.n,
+            m: self.shape.m,
+            edition: self.shape.edition,
             replica: self.replica,
-            n: self.n,
-            m: self.m,
             epochs: self.epochs,
             verdicts: self.verdicts,
             image: self.image.clone(),
@@ -110,9 +114,10 @@ impl ImageCalls {
 
     pub fn has_payload(&self, slot: usize) -> Call {
         Call::HasPayload {
+            n: self.shape.n,
+            m: self.shape.m,
+            edition: self.shape.edition,
             replica: self.replica,
-            n: self.n,
-            m: self.m,
             slot,
             image: self.image.clone(),
         }
@@ -120,9 +125,10 @@ impl ImageCalls {
 
     pub fn payload(&self, slot: usize) -> Call {
         Call::Payload {
+            n: self.shape.n,
+            m: self.shape.m,
+            edition: self.shape.edition,
             replica: self.replica,
-            n: self.n,
-            m: self.m,
             slot,
             image: self.image.clone(),
         }
@@ -133,8 +139,9 @@ impl Case {
     /// A plan of so many slots and a table of so many rows are lent.
     pub fn plan(&self, slots: usize, rows: usize) -> Call {
         Call::Plan {
-            n: self.n,
-            m: self.m,
+            n: self.shape.n,
+            m: self.shape.m,
+            edition: self.shape.edition,
             leader: self.leader,
             present: self.present,
             slots,
@@ -145,8 +152,9 @@ impl Case {
 
     pub fn step(&self) -> Call {
         Call::Step {
-            n: self.n,
-            m: self.m,
+            n: self.shape.n,
+            m: self.shape.m,
+            edition: self.shape.edition,
             leader: self.leader,
             present: self.present,
             cluster: self.cluster.clone(),
@@ -155,8 +163,9 @@ impl Case {
 
     pub fn run(&self, budget: u64) -> Call {
         Call::Run {
-            n: self.n,
-            m: self.m,
+            n: self.shape.n,
+            m: self.shape.m,
+            edition: self.shape.edition,
             leader: self.leader,
             present: self.present,
             budget,

@@ -1,21 +1,28 @@
 //! Agreeing histories: logs that share their past, appends in flight, then damage.
+//!
+//! A history goes by index. Each replica has dropped what stands before its own first index.
 
 use super::build::Cluster;
 use super::damage::{
     damage_entry, damage_header, damage_record, intact_under, some_entry, some_payload, torn_entry,
 };
 use super::rng::Rng;
+use super::shapes::{highest_first, some_first, some_shape};
 use super::Case;
-use crate::model::{judge_record, write_entry, RecordState};
+use crate::model::{judge_record, write_entry, RecordState, Shape};
 
-/// A payload that a majority of all replicas stored and the leader's log held.
+/// A payload that a majority of all replicas stored and the leader's log held, at one index.
 #[derive(Clone, Debug, PartialEq, Eq)]
 pub struct Committed {
+    /// The leader's slot.
     pub slot: usize,
+    pub index: u32,
     pub epoch: u32,
     pub payload: Vec<u8>,
     /// The replicas whose log held it: their record was there, in flight or not.
     pub holders: u32,
+    /// Those of them whose log begins at another index than the leader's.
+    pub elsewhere: u32,
 }
 
 /// A damaged cluster, and what was committed (the paper's confirmed) before the damage.
@@ -57,57 +64,66 @@ impl Arrival {
     }
 }
 
-/// The log of one replica: slot k is item k - 1.
-type ReplicaLog = Vec<(Appended, Arrival)>;
+/// The log of one replica: slot k is item k - 1, and has the index first + k - 1.
+#[derive(Clone, Debug)]
+struct ReplicaLog {
+    first: u32,
+    slots: Vec<(Appended, Arrival)>,
+}
+
+impl ReplicaLog {
+    /// What stands at an index, if the log has kept it and got so far.
+    fn at(&self, index: u32) -> Option<&(Appended, Arrival)> {
+        self.slots.get(index.checked_sub(self.first)? as usize)
+    }
+
+    fn last_epoch(&self) -> u32 {
+        self.slots.last().map_or(0, |last| last.0.epoch)
+    }
+}
 
 /// A damaged cluster as the suppositions of recovery allow it.
 pub fn agreed_case(rng: &mut Rng) -> AgreedCase {
-    let n = some_replica_count(rng);
-    let m = some_slot_count(rng);
-    agreed_case_of(rng, n, m)
+    let shape = some_shape(rng);
+    agreed_case_of(rng, shape)
 }
 
-/// The same with n replicas of m slots.
-pub fn agreed_case_of(rng: &mut Rng, n: usize, m: usize) -> AgreedCase {
-    let logs = replica_logs(rng, n, m);
+/// The same of this shape.
+pub fn agreed_case_of(rng: &mut Rng, shape: Shape) -> AgreedCase {
+    let logs = replica_logs(rng, shape);
     let leader = some_leader(rng, &logs);
-    let mut cluster = write_logs(rng, n, m, &logs);
+    let firsts: Vec<u32> = logs.iter().map(|log| log.first).collect();
+    let mut cluster = write_logs(rng, shape, &firsts, &logs);
     damage(rng, &mut cluster, &logs, leader);
-    let committed = committed(n, m, leader, &logs);
+    let committed = committed(leader, &logs);
     AgreedCase {
         case: Case {
-            n,
-            m,
+            shape,
             leader,
-            present: some_present(rng, n, leader),
+            present: some_present(rng, &firsts, leader),
             cluster: cluster.bytes,
         },
         committed,
     }
 }
 
-/// Mostly few replicas, so that many cases are played.
-pub fn some_replica_count(rng: &mut Rng) -> usize {
-    *rng.pick(&[3, 3, 3, 4, 4, 5, 5, 6, 7])
-}
-
-/// Mostly few slots, for the same reason.
-pub fn some_slot_count(rng: &mut Rng) -> usize {
-    match rng.below(1000) {
-        0 => 64,
-        1..=30 => rng.between(6, 12),
-        _ => rng.between(1, 5),
-    }
-}
-
-/// Mostly all replicas, now and then one away, rarely a word that is refused.
-pub fn some_present(rng: &mut Rng, n: usize, leader: usize) -> u32 {
+/// Mostly all replicas, now and then one away, rarely a word that is refused. Those whose log begins
+/// elsewhere than the leader's are mostly away, so that they refuse no call.
+pub fn some_present(rng: &mut Rng, firsts: &[u32], leader: usize) -> u32 {
+    let n = firsts.len();
     let all = (1u32 << n) - 1;
     let mut present = all;
     if rng.chance(60) {
         let rate = rng.below(60);
         for replica in 1..=n {
             if rng.chance(rate) {
+                present &= !(1 << (replica - 1));
+            }
+        }
+    }
+    if rng.chance(70) {
+        for replica in 1..=n {
+            if firsts[replica - 1] != firsts[leader - 1] {
                 present &= !(1 << (replica - 1));
             }
         }
@@ -121,12 +137,21 @@ pub fn some_present(rng: &mut Rng, n: usize, leader: usize) -> u32 {
     present
 }
 
-/// Each epoch's log is part of an older epoch's log with that epoch's own appends behind it.
-fn epoch_logs(rng: &mut Rng, m: usize) -> Vec<Vec<Appended>> {
+/// Each epoch's log is part of an older epoch's log with that epoch's own appends behind it. None has
+/// more than so many.
+fn epoch_logs(rng: &mut Rng, most: usize) -> Vec<Vec<Appended>> {
     let mut logs: Vec<Vec<Appended>> = vec![Vec::new()];
-    let mut epoch = if rng.chance(10) { u32::MAX - 8 } else { 0 };
-    for _ in 0..rng.between(1, 4) {
-        epoch += 1 + rng.below(2) as u32;
+    let steps: Vec<u32> = (0..rng.between(1, 4))
+        .map(|_| 1 + rng.below(2) as u32)
+        .collect();
+    // Now and then the last epoch is the largest that there is.
+    let mut epoch = if rng.chance(10) {
+        u32::MAX - steps.iter().sum::<u32>()
+    } else {
+        0
+    };
+    for step in steps {
+        epoch += step;
         let base = if rng.chance(70) {
             logs[logs.len() - 1].clone()
         } else {
@@ -138,7 +163,7 @@ fn epoch_logs(rng: &mut Rng, m: usize) -> Vec<Vec<Appended>> {
             rng.below(base.len() + 1)
         };
         let mut log = base[..keep].to_vec();
-        for _ in 0..rng.below(m - keep + 1) {
+        for _ in 0..rng.below(most - keep + 1) {
             log.push(Appended {
                 epoch,
                 payload: some_payload(rng),
@@ -149,30 +174,62 @@ fn epoch_logs(rng: &mut Rng, m: usize) -> Vec<Vec<Appended>> {
     logs
 }
 
-/// Each replica holds the beginning of some epoch's log.
-fn replica_logs(rng: &mut Rng, n: usize, m: usize) -> Vec<ReplicaLog> {
-    let epochs = epoch_logs(rng, m);
+/// How many of the oldest appends each replica has dropped: mostly all of them the same.
+fn dropped_counts(rng: &mut Rng, shape: Shape) -> Vec<usize> {
+    let most = rng.below(4);
+    if shape.edition == 1 || most == 0 {
+        return vec![0; shape.n];
+    }
+    let mut dropped = vec![rng.below(most + 1); shape.n];
+    if rng.chance(60) {
+        let rate = *rng.pick(&[15, 30, 70]);
+        for count in &mut dropped {
+            if rng.chance(rate) {
+                *count = rng.below(most + 1);
+            }
+        }
+    }
+    dropped
+}
+
+/// The index of the oldest append, such that every log has an index for its last slot.
+fn oldest_index(rng: &mut Rng, shape: Shape, dropped: &[usize]) -> u32 {
+    let most = dropped.iter().max().copied().unwrap_or(0) as u32;
+    some_first(rng, shape).min(highest_first(shape) - most)
+}
+
+/// Each replica holds the beginning of some epoch's log, without what it has dropped.
+fn replica_logs(rng: &mut Rng, shape: Shape) -> Vec<ReplicaLog> {
+    let dropped = dropped_counts(rng, shape);
+    let oldest = oldest_index(rng, shape, &dropped);
+    let most = dropped.iter().max().copied().unwrap_or(0);
+    let epochs = epoch_logs(rng, shape.m + most);
     let favourite = rng.below(epochs.len());
     let agreement = rng.between(40, 100);
     let mut logs = Vec::new();
-    for _ in 1..=n {
+    for dropped in dropped {
         let source = if rng.chance(agreement) {
             &epochs[favourite.max(epochs.len() / 2)]
         } else {
             rng.pick(&epochs)
         };
+        let kept = &source[dropped.min(source.len())..];
+        let kept = &kept[..kept.len().min(shape.m)];
         let length = if rng.chance(65) {
-            source.len()
+            kept.len()
         } else {
-            rng.below(source.len() + 1)
+            rng.below(kept.len() + 1)
         };
-        logs.push(arrivals(rng, &source[..length]));
+        logs.push(ReplicaLog {
+            first: oldest + dropped as u32,
+            slots: arrivals(rng, &kept[..length]),
+        });
     }
     logs
 }
 
 /// The last append, rarely the last two, may have been in flight.
-fn arrivals(rng: &mut Rng, appended: &[Appended]) -> ReplicaLog {
+fn arrivals(rng: &mut Rng, appended: &[Appended]) -> Vec<(Appended, Arrival)> {
     let in_flight = match rng.below(10) {
         0..=6 => 0,
         7 | 8 => 1,
@@ -193,12 +250,15 @@ fn arrivals(rng: &mut Rng, appended: &[Appended]) -> ReplicaLog {
     log
 }
 
-/// Mostly the longest log of the latest epoch, as an election would have it.
+/// Mostly the log of the latest epoch that gets furthest, as an election would have it.
 fn some_leader(rng: &mut Rng, logs: &[ReplicaLog]) -> usize {
     if rng.chance(25) {
         return rng.between(1, logs.len());
     }
-    let rank = |log: &ReplicaLog| (log.last().map_or(0, |last| last.0.epoch), log.len());
+    let rank = |log: &ReplicaLog| {
+        let behind = u64::from(log.first) + log.slots.len() as u64;
+        (log.last_epoch(), behind)
+    };
     let best = logs.iter().map(rank).max().unwrap_or((0, 0));
     let candidates: Vec<usize> = (1..=logs.len())
         .filter(|&replica| rank(&logs[replica - 1]) == best)
@@ -207,17 +267,17 @@ fn some_leader(rng: &mut Rng, logs: &[ReplicaLog]) -> usize {
 }
 
 /// The cluster as it stands when the power has failed, before any damage.
-fn write_logs(rng: &mut Rng, n: usize, m: usize, logs: &[ReplicaLog]) -> Cluster {
-    let mut cluster = Cluster::fresh(n, m);
+fn write_logs(rng: &mut Rng, shape: Shape, firsts: &[u32], logs: &[ReplicaLog]) -> Cluster {
+    let mut cluster = Cluster::of_firsts(shape, firsts);
     let leftovers = rng.below(90);
-    for replica in 1..=n {
-        for slot in 1..=m {
+    for replica in 1..=shape.n {
+        let log = &logs[replica - 1];
+        for slot in 1..=shape.m {
             if rng.chance(leftovers) {
-                let near = last_epoch(&logs[replica - 1]);
-                let bytes = leftover(rng, logs, slot, near);
+                let bytes = leftover(rng, logs, &cluster, replica, slot);
                 cluster.entry_mut(replica, slot).copy_from_slice(&bytes);
             }
-            if let Some((item, arrival)) = logs[replica - 1].get(slot - 1) {
+            if let Some((item, arrival)) = log.slots.get(slot - 1) {
                 write_slot(rng, &mut cluster, replica, slot, item, *arrival);
             }
         }
@@ -225,18 +285,28 @@ fn write_logs(rng: &mut Rng, n: usize, m: usize, logs: &[ReplicaLog]) -> Cluster
     cluster
 }
 
-fn last_epoch(log: &ReplicaLog) -> u32 {
-    log.last().map_or(1, |last| last.0.epoch)
-}
-
-/// What an older log may have left at a slot: anything, or an entry another replica holds.
-fn leftover(rng: &mut Rng, logs: &[ReplicaLog], slot: usize, near: u32) -> [u8; 240] {
+/// What an older log may have left at a slot: anything, an entry that another replica holds at this
+/// index, or one that it holds at this slot.
+fn leftover(
+    rng: &mut Rng,
+    logs: &[ReplicaLog],
+    cluster: &Cluster,
+    replica: usize,
+    slot: usize,
+) -> [u8; 240] {
+    let index = cluster.index(replica, slot);
     if rng.chance(40) {
-        if let Some((item, _)) = rng.pick(logs).get(slot - 1) {
-            return write_entry(item.epoch, slot, &item.payload);
+        let other = rng.below(logs.len());
+        let index = match rng.below(4) {
+            0 => cluster.index(other + 1, slot),
+            _ => index,
+        };
+        if let Some((item, _)) = logs[other].at(index) {
+            return write_entry(item.epoch, index, &item.payload);
         }
     }
-    some_entry(rng, slot, near)
+    let near = logs[replica - 1].last_epoch().max(1);
+    some_entry(rng, index, near)
 }
 
 fn write_slot(
@@ -247,12 +317,13 @@ fn write_slot(
     item: &Appended,
     arrival: Arrival,
 ) {
-    let new = write_entry(item.epoch, slot, &item.payload);
+    let index = cluster.index(replica, slot);
+    let new = write_entry(item.epoch, index, &item.payload);
     if arrival.entry_is_whole() {
         cluster.entry_mut(replica, slot).copy_from_slice(&new);
     } else if rng.chance(70) {
         let old = cluster.entry(replica, slot).to_vec();
-        let torn = torn_entry(rng, &old, &new, slot);
+        let torn = torn_entry(rng, &old, &new, index);
         cluster.entry_mut(replica, slot).copy_from_slice(&torn);
     }
     if !arrival.record_is_there() {
@@ -261,53 +332,53 @@ fn write_slot(
     cluster.put_record(replica, slot, item.epoch);
     // A record without its entry stands beside a damaged one.
     let entry = cluster.entry_mut(replica, slot);
-    if !arrival.entry_is_whole() && intact_under(entry, slot, item.epoch) {
-        damage_entry(rng, entry, slot, item.epoch);
+    if !arrival.entry_is_whole() && intact_under(entry, index, item.epoch) {
+        damage_entry(rng, entry, index, item.epoch);
     }
 }
 
 /// Damages headers, and of each used slot the record or the entry, never both.
 fn damage(rng: &mut Rng, cluster: &mut Cluster, logs: &[ReplicaLog], leader: usize) {
-    let (n, m) = (cluster.n, cluster.m);
+    let shape = cluster.shape;
     let rate = *rng.pick(&[0, 5, 15, 30, 50, 80]);
     let leader_rate = *rng.pick(&[rate, 30, 60]);
     let record_share = rng.below(70);
-    for replica in 1..=n {
+    for replica in 1..=shape.n {
         let rate = if replica == leader { leader_rate } else { rate };
         let log = &logs[replica - 1];
-        for (at, (item, arrival)) in log.iter().enumerate() {
+        for (at, (item, arrival)) in log.slots.iter().enumerate() {
             let slot = at + 1;
+            let index = cluster.index(replica, slot);
             if !arrival.record_is_there() || !rng.chance(rate) {
                 continue;
             }
-            let whole = intact_under(cluster.entry(replica, slot), slot, item.epoch);
+            let whole = intact_under(cluster.entry(replica, slot), index, item.epoch);
             if whole && rng.chance(record_share) {
-                damage_record(rng, cluster.record_mut(replica, slot), slot);
+                damage_record(rng, cluster.record_mut(replica, slot), index);
             } else {
-                damage_entry(rng, cluster.entry_mut(replica, slot), slot, item.epoch);
+                damage_entry(rng, cluster.entry_mut(replica, slot), index, item.epoch);
             }
-            debug_assert!(judge_record(cluster.record(replica, slot), slot) != RecordState::Blank);
+            debug_assert!(judge_record(cluster.record(replica, slot), index) != RecordState::Blank);
         }
         if rng.chance(4) {
-            damage_header(rng, cluster.header_mut(replica), replica, n, m);
+            damage_header(rng, cluster.header_mut(replica), shape, replica);
         }
     }
 }
 
-/// Every payload stored by a majority and held by the leader's log.
-fn committed(n: usize, m: usize, leader: usize, logs: &[ReplicaLog]) -> Vec<Committed> {
+/// Every payload stored by a majority of all replicas and held by the leader's log: index by index, each
+/// replica with its own first. Of what stands before the leader's first index nothing is said.
+fn committed(leader: usize, logs: &[ReplicaLog]) -> Vec<Committed> {
+    let leader_log = &logs[leader - 1];
     let mut found = Vec::new();
-    for slot in 1..=m {
-        let Some((item, arrival)) = logs[leader - 1].get(slot - 1) else {
-            continue;
-        };
+    for (at, (item, arrival)) in leader_log.slots.iter().enumerate() {
+        let (slot, index) = (at + 1, leader_log.first + at as u32);
         if !arrival.record_is_there() {
             continue;
         }
-        let mut stored: u32 = 0;
-        let mut holders: u32 = 0;
-        for replica in 1..=n {
-            let Some((other, arrival)) = logs[replica - 1].get(slot - 1) else {
+        let (mut stored, mut holders, mut elsewhere) = (0u32, 0u32, 0u32);
+        for (at, log) in logs.iter().enumerate() {
+            let Some((other, arrival)) = log.at(index) else {
                 continue;
             };
             if other.epoch != item.epoch {
@@ -315,18 +386,21 @@ fn committed(n: usize, m: usize, leader: usize, logs: &[ReplicaLog]) -> Vec<Comm
             }
             debug_assert_eq!(other, item, "logs agree");
             if *arrival == Arrival::Stored {
-                stored |= 1 << (replica - 1);
+                stored |= 1 << at;
             }
             if arrival.record_is_there() {
-                holders |= 1 << (replica - 1);
+                holders |= 1 << at;
+                elsewhere |= u32::from(log.first != leader_log.first) << at;
             }
         }
-        if stored.count_ones() as usize > n / 2 {
+        if stored.count_ones() as usize > logs.len() / 2 {
             found.push(Committed {
                 slot,
+                index,
                 epoch: item.epoch,
                 payload: item.payload.clone(),
                 holders,
+                elsewhere,
             });
         }
     }

@@ -4,18 +4,21 @@ use super::damage::{damage_entry, damage_header, damage_record, flip_one_byte};
 use super::damage::{some_entry, some_epoch, some_payload};
 use super::pieces::{payload_of, some_word};
 use super::rng::Rng;
+use super::shapes::{asked_first, other_edition, some_edition, some_first};
 use crate::model::{
-    entry_offset, fresh_image, image_len, record_offset, write_entry, write_record, BLANK_RECORD,
-    ENTRY_LEN, HEADER_LEN, MAX_PAYLOAD, MAX_REPLICAS, MIN_REPLICAS, RECORD_LEN,
+    entry_offset, fresh_image, header_len, image_len, index_of, record_offset, write_entry,
+    write_record, Shape, BLANK_RECORD, ENTRY_LEN, MAX_PAYLOAD, MAX_REPLICAS, MIN_REPLICAS,
+    RECORD_LEN,
 };
 
 /// An image, and what the calls about it name and lend.
 #[derive(Clone, Debug, PartialEq, Eq)]
 pub struct ImageCalls {
+    pub shape: Shape,
     pub replica: usize,
-    pub n: usize,
-    pub m: usize,
     pub image: Vec<u8>,
+    /// Where the log of a fresh image is to begin.
+    pub first: u32,
     /// How long the buffers are that a read fills.
     pub epochs: usize,
     pub verdicts: usize,
@@ -27,27 +30,30 @@ pub struct ImageCalls {
 /// Calls about an image of m slots, or of what was one.
 pub fn image_calls(rng: &mut Rng, m: usize) -> ImageCalls {
     let n = rng.between(MIN_REPLICAS, MAX_REPLICAS);
+    let edition = some_edition(rng);
+    let shape = Shape { n, m, edition };
     let replica = rng.between(1, n);
-    let mut image = vec![0; image_len(m)];
-    fresh_image(&mut image, replica, n, m).expect("the numbers are accepted");
-    let last = fill(rng, &mut image, m);
+    let first = some_first(rng, shape);
+    let mut image = vec![0; image_len(shape)];
+    fresh_image(&mut image, shape, replica, first).expect("the numbers are accepted");
+    let last = fill(rng, &mut image, shape, first);
     match rng.below(16) {
         0 | 1 => {
             for _ in 0..rng.between(1, 3) {
                 flip_one_byte(rng, &mut image);
             }
         }
-        2 => damage_header(rng, &mut image[..HEADER_LEN], replica, n, m),
-        3 | 4 => spoil_slot(rng, &mut image, m),
+        2 => damage_header(rng, &mut image[..header_len(shape)], shape, replica),
+        3 | 4 => spoil_slot(rng, &mut image, shape, first),
         5 => other_length(rng, &mut image),
         6 if rng.chance(50) => rng.fill_noise(&mut image),
         _ => {}
     }
     let mut calls = ImageCalls {
+        shape,
         replica,
-        n,
-        m,
         image,
+        first: asked_first(rng, shape),
         epochs: m,
         verdicts: m,
         epoch: appended_epoch(rng, last),
@@ -58,6 +64,8 @@ pub fn image_calls(rng: &mut Rng, m: usize) -> ImageCalls {
         1 => calls.epochs = rng.below(m + 2),
         2 => calls.verdicts = rng.below(m + 2),
         3 => (calls.epochs, calls.verdicts) = (m + 1, m + 1),
+        4 => calls.shape.edition = other_edition(rng, edition),
+        5 => in_the_other_edition(rng, &mut calls),
         _ => {}
     }
     calls
@@ -65,29 +73,31 @@ pub fn image_calls(rng: &mut Rng, m: usize) -> ImageCalls {
 
 /// Used slots under epochs that never fall, some of them damaged; now and then something in the
 /// unused ones. Answers the last epoch.
-fn fill(rng: &mut Rng, image: &mut [u8], m: usize) -> u32 {
+fn fill(rng: &mut Rng, image: &mut [u8], shape: Shape, first: u32) -> u32 {
+    let m = shape.m;
     let length = if rng.chance(40) { m } else { rng.below(m + 1) };
     let rate = *rng.pick(&[0, 0, 10, 40]);
     let mut epoch = *rng.pick(&[1, 1, 2, 7, 999_999_999, u32::MAX - 1, u32::MAX]);
     for slot in 1..=m {
+        let index = index_of(first, slot);
         if slot > length {
             if rng.chance(10) {
-                let bytes = some_entry(rng, slot, epoch);
-                entry_mut(image, m, slot).copy_from_slice(&bytes);
+                let bytes = some_entry(rng, index, epoch);
+                entry_mut(image, shape, slot).copy_from_slice(&bytes);
             }
             continue;
         }
         if rng.chance(30) {
             epoch = epoch.saturating_add(*rng.pick(&[1, 2, 1000]));
         }
-        let entry = write_entry(epoch, slot, &some_payload(rng));
-        entry_mut(image, m, slot).copy_from_slice(&entry);
-        record_mut(image, slot).copy_from_slice(&write_record(epoch, slot));
+        let entry = write_entry(epoch, index, &some_payload(rng));
+        entry_mut(image, shape, slot).copy_from_slice(&entry);
+        record_mut(image, shape, slot).copy_from_slice(&write_record(epoch, index));
         if rng.chance(rate) {
             if rng.chance(30) {
-                damage_record(rng, record_mut(image, slot), slot);
+                damage_record(rng, record_mut(image, shape, slot), index);
             } else {
-                damage_entry(rng, entry_mut(image, m, slot), slot, epoch);
+                damage_entry(rng, entry_mut(image, shape, slot), index, epoch);
             }
         }
     }
@@ -99,22 +109,23 @@ fn fill(rng: &mut Rng, image: &mut [u8], m: usize) -> u32 {
 }
 
 /// One slot written anew: a gap, a record of any epoch, or nothing left of either.
-fn spoil_slot(rng: &mut Rng, image: &mut [u8], m: usize) {
-    let slot = rng.between(1, m);
+fn spoil_slot(rng: &mut Rng, image: &mut [u8], shape: Shape, first: u32) {
+    let slot = rng.between(1, shape.m);
+    let index = index_of(first, slot);
     let epoch = some_epoch(rng, 2);
     match rng.below(4) {
-        0 => record_mut(image, slot).copy_from_slice(&BLANK_RECORD),
+        0 => record_mut(image, shape, slot).copy_from_slice(&BLANK_RECORD),
         1 => {
-            record_mut(image, slot).copy_from_slice(&write_record(epoch, slot));
+            record_mut(image, shape, slot).copy_from_slice(&write_record(epoch, index));
         }
         2 => {
-            let bytes = write_entry(epoch, slot, &some_payload(rng));
-            entry_mut(image, m, slot).copy_from_slice(&bytes);
-            damage_record(rng, record_mut(image, slot), slot);
+            let bytes = write_entry(epoch, index, &some_payload(rng));
+            entry_mut(image, shape, slot).copy_from_slice(&bytes);
+            damage_record(rng, record_mut(image, shape, slot), index);
         }
         _ => {
-            damage_record(rng, record_mut(image, slot), slot);
-            damage_entry(rng, entry_mut(image, m, slot), slot, epoch);
+            damage_record(rng, record_mut(image, shape, slot), index);
+            damage_entry(rng, entry_mut(image, shape, slot), index, epoch);
         }
     }
 }
@@ -128,9 +139,17 @@ fn other_length(rng: &mut Rng, image: &mut Vec<u8>) {
     image.resize(length, b' ');
 }
 
+/// The image as it is, lengthened or shortened to what an image of the other edition has.
+fn in_the_other_edition(rng: &mut Rng, calls: &mut ImageCalls) {
+    calls.shape.edition = 3 - calls.shape.edition;
+    let filler = *rng.pick(b" \n0");
+    calls.image.resize(image_len(calls.shape), filler);
+}
+
 /// One of the numbers that a call names is another.
 fn other_numbers(rng: &mut Rng, calls: &mut ImageCalls) {
-    let ImageCalls { replica, n, m, .. } = calls;
+    let ImageCalls { shape, replica, .. } = calls;
+    let Shape { n, m, .. } = shape;
     match rng.below(3) {
         0 => *replica = *rng.pick(&[0, *replica - 1, *replica + 1, *n + 1, usize::MAX]),
         1 => *n = *rng.pick(&[0, 1, 2, 3, 4, 5, 6, 7, 8, 9, usize::MAX]),
@@ -161,12 +180,12 @@ fn appended_payload(rng: &mut Rng) -> Vec<u8> {
     payload_of(rng, length)
 }
 
-fn record_mut(image: &mut [u8], slot: usize) -> &mut [u8] {
-    let at = record_offset(slot);
+fn record_mut(image: &mut [u8], shape: Shape, slot: usize) -> &mut [u8] {
+    let at = record_offset(shape, slot);
     &mut image[at..at + RECORD_LEN]
 }
 
-fn entry_mut(image: &mut [u8], m: usize, slot: usize) -> &mut [u8] {
-    let at = entry_offset(m, slot);
+fn entry_mut(image: &mut [u8], shape: Shape, slot: usize) -> &mut [u8] {
+    let at = entry_offset(shape, slot);
     &mut image[at..at + ENTRY_LEN]
 }

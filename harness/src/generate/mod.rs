@@ -12,6 +12,7 @@ pub mod piece_calls;
 pub mod pieces;
 pub mod recovery;
 pub mod rng;
+pub mod shapes;
 pub mod small;
 
 pub use arbitrary::arbitrary_case;
@@ -24,13 +25,15 @@ pub use noise::{noise_cluster, noise_image, noise_report_input, ImageCase};
 pub use pieces::{entry_piece, header_piece, record_piece, HeaderPiece, Piece};
 pub use recovery::{recovery_case, recovery_case_of};
 pub use rng::Rng;
-pub use small::{Small, FOUR, THREE};
+pub use shapes::{some_first, some_shape, some_shape_of};
+pub use small::{Small, FOUR, FROM_THREE, THREE};
+
+use crate::model::Shape;
 
 /// A cluster with the numbers a call names beside it.
 #[derive(Clone, Debug, PartialEq, Eq)]
 pub struct Case {
-    pub n: usize,
-    pub m: usize,
+    pub shape: Shape,
     pub leader: usize,
     pub present: u32,
     pub cluster: Vec<u8>,

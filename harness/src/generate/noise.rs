@@ -1,29 +1,34 @@
 //! Noise: images and clusters of any bytes and any length, mutated ones among them.
 
-use super::arbitrary::{arbitrary_case, arbitrary_case_of};
+use super::arbitrary::arbitrary_case_of;
 use super::damage::{flip_one_byte, some_entry};
-use super::history::{agreed_case, agreed_case_of};
+use super::history::agreed_case_of;
 use super::rng::Rng;
+use super::shapes::{other_edition, some_shape, some_shape_of};
 use super::Case;
-use crate::model::{entry_offset, image_len, image_offset, record_offset, write_record};
+use crate::model::{
+    entry_offset, header_len, image_len, image_offset, index_of, judge_header, record_offset,
+    write_record, Shape,
+};
 
 /// An image with the numbers a call names beside it.
 #[derive(Clone, Debug, PartialEq, Eq)]
 pub struct ImageCase {
+    pub shape: Shape,
     pub replica: usize,
-    pub n: usize,
-    pub m: usize,
     pub image: Vec<u8>,
 }
 
 /// An image cut out of a cluster, then spoilt in some way or none.
 pub fn noise_image(rng: &mut Rng) -> ImageCase {
-    let case = some_cluster(rng);
-    let replica = rng.between(1, case.n);
-    let at = image_offset(case.m, replica);
-    let mut image = case.cluster[at..at + image_len(case.m)].to_vec();
-    spoil_slots(rng, &mut image, case.m);
+    let shape = some_shape(rng);
+    let case = some_cluster(rng, shape);
+    let replica = rng.between(1, shape.n);
+    let at = image_offset(shape, replica);
+    let mut image = case.cluster[at..at + image_len(shape)].to_vec();
+    spoil_slots(rng, &mut image, shape, replica);
     spoil_length(rng, &mut image);
+    let edition = some_edition_or_wrong(rng, shape.edition);
     let mut wrong = |number: usize| {
         if rng.chance(5) {
             *rng.pick(&[0, 1, 2, 4, 6, 8, 64, 65, usize::MAX])
@@ -32,44 +37,54 @@ pub fn noise_image(rng: &mut Rng) -> ImageCase {
         }
     };
     ImageCase {
+        shape: Shape {
+            n: wrong(shape.n),
+            m: wrong(shape.m),
+            edition,
+        },
         replica: wrong(replica),
-        n: wrong(case.n),
-        m: wrong(case.m),
         image,
+    }
+}
+
+/// Mostly the right edition.
+fn some_edition_or_wrong(rng: &mut Rng, edition: usize) -> usize {
+    if rng.chance(5) {
+        other_edition(rng, edition)
+    } else {
+        edition
     }
 }
 
 /// A cluster spoilt in some way or none, with numbers that may not fit it.
 pub fn noise_cluster(rng: &mut Rng) -> Case {
-    let case = some_cluster(rng);
-    spoil_cluster(rng, case)
+    let shape = some_shape(rng);
+    noise_cluster_of(rng, shape)
 }
 
-/// The same with n replicas of m slots, before it is spoilt.
-pub fn noise_cluster_of(rng: &mut Rng, n: usize, m: usize) -> Case {
-    let case = if rng.chance(50) {
-        agreed_case_of(rng, n, m).case
-    } else {
-        arbitrary_case_of(rng, n, m)
-    };
+/// The same of this shape, before it is spoilt.
+pub fn noise_cluster_of(rng: &mut Rng, shape: Shape) -> Case {
+    let case = some_cluster(rng, shape);
     spoil_cluster(rng, case)
 }
 
 fn spoil_cluster(rng: &mut Rng, mut case: Case) -> Case {
-    for replica in 1..=case.n {
+    let shape = case.shape;
+    for replica in 1..=shape.n {
         if rng.chance(20) {
-            let at = image_offset(case.m, replica);
-            let end = at + image_len(case.m);
-            spoil_slots(rng, &mut case.cluster[at..end], case.m);
+            let at = image_offset(shape, replica);
+            let end = at + image_len(shape);
+            spoil_slots(rng, &mut case.cluster[at..end], shape, replica);
         }
     }
     spoil_length(rng, &mut case.cluster);
     if rng.chance(5) {
-        case.n = *rng.pick(&[0, 1, 2, 3, 4, 5, 6, 7, 8, 9, usize::MAX]);
+        case.shape.n = *rng.pick(&[0, 1, 2, 3, 4, 5, 6, 7, 8, 9, usize::MAX]);
     }
     if rng.chance(5) {
-        case.m = *rng.pick(&[0, 1, 63, 64, 65, usize::MAX]);
+        case.shape.m = *rng.pick(&[0, 1, 63, 64, 65, usize::MAX]);
     }
+    case.shape.edition = some_edition_or_wrong(rng, shape.edition);
     if rng.chance(5) {
         case.leader = *rng.pick(&[0, 1, 8, 31, 32, 33, 64, usize::MAX]);
     }
@@ -79,12 +94,15 @@ fn spoil_cluster(rng: &mut Rng, mut case: Case) -> Case {
     case
 }
 
-/// An input of the printing program, its command line mostly well formed.
+/// An input of the printing program, its command line mostly well formed, its images mostly of the
+/// edition that it reads.
 pub fn noise_report_input(rng: &mut Rng) -> Vec<u8> {
-    let case = noise_cluster(rng);
+    let edition = if rng.chance(95) { 1 } else { 2 };
+    let shape = some_shape_of(rng, edition);
+    let case = noise_cluster_of(rng, shape);
     let column = |number: u64, width: usize| format!("{:>1$}", number % 10_000, width).into_bytes();
     let mut command = Vec::new();
-    for number in [case.n, case.m, case.leader] {
+    for number in [case.shape.n, case.shape.m, case.leader] {
         command.extend(column(number as u64 % 1000, 3));
     }
     if rng.chance(20) {
@@ -110,33 +128,36 @@ pub fn noise_report_input(rng: &mut Rng) -> Vec<u8> {
     input
 }
 
-fn some_cluster(rng: &mut Rng) -> Case {
+fn some_cluster(rng: &mut Rng, shape: Shape) -> Case {
     if rng.chance(50) {
-        agreed_case(rng).case
+        agreed_case_of(rng, shape).case
     } else {
-        arbitrary_case(rng)
+        arbitrary_case_of(rng, shape)
     }
 }
 
 /// Overwrites parts of an image: any byte, a record, an entry, or everything.
-fn spoil_slots(rng: &mut Rng, image: &mut [u8], m: usize) {
+fn spoil_slots(rng: &mut Rng, image: &mut [u8], shape: Shape, replica: usize) {
+    let header = &image[..header_len(shape)];
+    let first = judge_header(header, shape, replica).unwrap_or(1);
     for _ in 0..rng.below(4) {
-        let slot = rng.between(1, m);
+        let slot = rng.between(1, shape.m);
+        let index = index_of(first, slot);
         match rng.below(8) {
             0 | 1 => flip_one_byte(rng, image),
             2 | 3 => {
-                let at = record_offset(slot);
-                let bytes = write_record(1 + rng.below(5) as u32, slot);
+                let at = record_offset(shape, slot);
+                let bytes = write_record(1 + rng.below(5) as u32, index);
                 image[at..at + bytes.len()].copy_from_slice(&bytes);
             }
             4 => {
-                let at = record_offset(slot);
+                let at = record_offset(shape, slot);
                 image[at..at + 33].fill(b' ');
                 image[at + 33] = *rng.pick(b"\n\n ");
             }
             5 | 6 => {
-                let at = entry_offset(m, slot);
-                let bytes = some_entry(rng, slot, 2);
+                let at = entry_offset(shape, slot);
+                let bytes = some_entry(rng, index, 2);
                 image[at..at + bytes.len()].copy_from_slice(&bytes);
             }
             _ if rng.chance(20) => rng.fill_noise(image),

@@ -4,7 +4,7 @@ use super::pieces::{entry_piece, header_piece, record_piece, HeaderPiece, Piece}
 use super::pieces::{payload_of, some_column, some_number, some_word, wrong_length};
 use super::rng::Rng;
 use crate::call::Call;
-use crate::model::{ENTRY_LEN, HEADER_LEN, MAX_PAYLOAD, RECORD_LEN};
+use crate::model::{header_len, Shape, ENTRY_LEN, MAX_PAYLOAD, RECORD_LEN};
 
 /// The widest column that is read.
 pub const WIDEST: usize = 19;
@@ -49,22 +49,25 @@ pub fn read_column_call(rng: &mut Rng) -> Call {
 pub fn header_calls(rng: &mut Rng) -> [Call; 2] {
     let HeaderPiece {
         bytes,
+        shape,
         replica,
-        n,
-        m,
     } = header_piece(rng);
+    let Shape { n, m, edition } = shape;
     [
-        Call::IsHeader {
+        Call::JudgeHeader {
             header: mostly_whole(rng, bytes),
-            replica,
             n,
             m,
+            edition,
+            replica,
         },
         Call::WriteHeader {
-            length: some_length(rng, HEADER_LEN),
-            replica,
+            length: some_length(rng, header_len(shape)),
             n,
             m,
+            edition,
+            replica,
+            first: some_word(rng),
         },
     ]
 }

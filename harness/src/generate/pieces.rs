@@ -3,8 +3,8 @@
 use super::damage::flip_one_byte;
 use super::rng::Rng;
 use crate::model::{
-    checksum, write_column, write_record, BLANK_RECORD, ENTRY_LEN, HEADER_LEN, MAX_PAYLOAD,
-    RECORD_LEN,
+    checksum, write_column, write_record, Shape, BLANK_RECORD, ENTRY_LEN, HEADER_LEN, HEADER_LEN_2,
+    LAST_INDEX, MAX_PAYLOAD, RECORD_LEN,
 };
 
 /// The bytes of a record or an entry, and the index they are judged for.
@@ -18,9 +18,8 @@ pub struct Piece {
 #[derive(Clone, Debug)]
 pub struct HeaderPiece {
     pub bytes: Vec<u8>,
+    pub shape: Shape,
     pub replica: usize,
-    pub n: usize,
-    pub m: usize,
 }
 
 /// A number at an edge of a column or a type, or any.
@@ -106,6 +105,7 @@ pub fn wrong_length(rng: &mut Rng, bytes: &mut Vec<u8>) {
             right + 1,
             0,
             HEADER_LEN,
+            HEADER_LEN_2,
             RECORD_LEN,
             ENTRY_LEN,
             any,
@@ -155,7 +155,7 @@ pub fn record_piece(rng: &mut Rng) -> Piece {
     match rng.below(10) {
         0 | 1 => {}
         2 => rng.fill_noise(&mut bytes),
-        3 => bytes = write_record(some_word(rng), index as usize).to_vec(),
+        3 => bytes = write_record(some_word(rng), index).to_vec(),
         _ => {
             bytes.clear();
             let epoch = some_epoch_column(rng);
@@ -203,14 +203,44 @@ pub fn entry_piece(rng: &mut Rng) -> Piece {
     Piece { bytes, index }
 }
 
-/// A header, written for its numbers or not, or 28 bytes that are none.
+/// A number that stands in a header, or that is asked for.
+fn header_number(rng: &mut Rng) -> usize {
+    *rng.pick(&[0, 1, 2, 3, 4, 5, 6, 7, 9, 10, 63, 64, 65, 100, 999])
+}
+
+/// Mostly one that there is.
+fn header_edition(rng: &mut Rng) -> usize {
+    match rng.below(10) {
+        0..=3 => 1,
+        4..=8 => 2,
+        _ => header_number(rng),
+    }
+}
+
+/// The number in the column of the first index: around the highest that leaves an index for the last of
+/// m slots, a low one, or any.
+fn first_column(rng: &mut Rng, m: usize) -> u64 {
+    let highest = u64::from(LAST_INDEX) - (m as u64).saturating_sub(1);
+    match rng.below(4) {
+        0 => highest - 1 + rng.below(3) as u64,
+        1 => rng.below(9) as u64,
+        _ => some_epoch_column(rng),
+    }
+}
+
+/// A header, written for its numbers or not, or as many bytes that are none.
 pub fn header_piece(rng: &mut Rng) -> HeaderPiece {
-    let mut number = || *rng.pick(&[0, 1, 2, 3, 4, 5, 6, 7, 9, 10, 63, 64, 65, 100, 999]);
-    let numbers = [number(), number(), number()];
+    let edition = header_edition(rng);
+    let numbers = [(); 3].map(|()| header_number(rng));
     let mut bytes = if rng.chance(97) { *b"rope" } else { *b"r0pe" }.to_vec();
-    push_column(rng, &mut bytes, 3, 1);
+    push_column(rng, &mut bytes, 3, edition as u64);
     for number in numbers {
         push_column(rng, &mut bytes, 3, number as u64);
+    }
+    // Now and then a first index where there is none, or none where there is one.
+    if (edition == 2) != rng.chance(2) {
+        let first = first_column(rng, numbers[2]);
+        push_column(rng, &mut bytes, 11, first);
     }
     push_seal(rng, &mut bytes);
     if rng.chance(10) {
@@ -219,16 +249,16 @@ pub fn header_piece(rng: &mut Rng) -> HeaderPiece {
     if rng.chance(15) {
         spoil(rng, &mut bytes);
     }
-    let [replica, n, m] = numbers.map(|number| match rng.below(25) {
-        0 => rng.below(1000),
-        1 => number + 1000 * rng.below(3),
-        2 => some_number(rng) as usize,
-        _ => number,
-    });
+    let [edition, replica, n, m] =
+        [edition, numbers[0], numbers[1], numbers[2]].map(|number| match rng.below(25) {
+            0 => rng.below(1000),
+            1 => number + 1000 * rng.below(3),
+            2 => some_number(rng) as usize,
+            _ => number,
+        });
     HeaderPiece {
         bytes,
+        shape: Shape { n, m, edition },
         replica,
-        n,
-        m,
     }
 }

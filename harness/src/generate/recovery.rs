@@ -1,33 +1,44 @@
 //! Clusters to be recovered: mostly small ones, so that many are, and some of every size.
 
 use super::arbitrary::arbitrary_case_of;
-use super::history::{agreed_case_of, some_replica_count};
+use super::history::agreed_case_of;
 use super::noise::noise_cluster_of;
 use super::rng::Rng;
+use super::shapes::{other_edition, some_edition, some_replica_count};
 use super::Case;
-use crate::model::{MAX_REPLICAS, MAX_SLOTS, MIN_REPLICAS};
+use crate::model::{Shape, MAX_REPLICAS, MAX_SLOTS, MIN_REPLICAS};
 
 /// A cluster of any kind and size.
 pub fn recovery_case(rng: &mut Rng) -> Case {
-    let (n, m) = some_shape(rng);
-    recovery_case_of(rng, n, m)
+    let (n, m) = some_counts(rng);
+    let edition = some_edition(rng);
+    recovery_case_of(rng, Shape { n, m, edition })
 }
 
 /// A cluster of any kind: agreed and damaged, arbitrary, or spoilt.
-pub fn recovery_case_of(rng: &mut Rng, n: usize, m: usize) -> Case {
+pub fn recovery_case_of(rng: &mut Rng, shape: Shape) -> Case {
     let mut case = match rng.below(10) {
-        0..=5 => agreed_case_of(rng, n, m).case,
-        6..=7 => arbitrary_case_of(rng, n, m),
-        _ => noise_cluster_of(rng, n, m),
+        0..=5 => agreed_case_of(rng, shape).case,
+        6..=7 => arbitrary_case_of(rng, shape),
+        _ => noise_cluster_of(rng, shape),
     };
-    if rng.chance(1) {
-        case.leader = *rng.pick(&[0, 1, case.n, case.n.wrapping_add(1), 8, 32, 33, usize::MAX]);
-    }
+    other_numbers(rng, &mut case);
     case
 }
 
+/// Now and then another leader, or another edition.
+pub fn other_numbers(rng: &mut Rng, case: &mut Case) {
+    if rng.chance(1) {
+        let n = case.shape.n;
+        case.leader = *rng.pick(&[0, 1, n, n.wrapping_add(1), 8, 32, 33, usize::MAX]);
+    }
+    if rng.chance(1) {
+        case.shape.edition = other_edition(rng, case.shape.edition);
+    }
+}
+
 /// n and m. A recovery's cost grows with the square of both.
-fn some_shape(rng: &mut Rng) -> (usize, usize) {
+fn some_counts(rng: &mut Rng) -> (usize, usize) {
     match rng.below(100_000) {
         0..=3 => (7, MAX_SLOTS),
         4..=33 => (

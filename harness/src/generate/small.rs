@@ -1,9 +1,11 @@
 //! Agreed clusters of one slot over two epochs, up to the kind of bytes: all of three replicas, and of
-//! four those of fewer kinds.
+//! four those of fewer kinds; and in edition 2 those of three whose logs begin at 3 or at 4.
 
 use super::build::Cluster;
+use super::damage::header_of;
 use super::history::{AgreedCase, Committed};
 use super::Case;
+use crate::model::{write_entry, Shape};
 
 /// What one replica holds in its only slot, with its header good or not.
 #[derive(Clone, Copy, Debug, PartialEq, Eq)]
@@ -16,6 +18,10 @@ enum Held {
     RecordLost(u32),
     /// Refused by its header; used under an epoch, or unused for epoch 0.
     Unreadable(u32),
+    /// The same, by a header whose checksum is right and whose first index is 0.
+    FromZero(u32),
+    /// A log that begins one index later, with its slot used under an epoch, or unused for epoch 0.
+    Elsewhere(u32),
 }
 
 /// The kinds of bytes an entry may be.
@@ -27,6 +33,8 @@ enum Bytes {
     Appended(u32),
     /// An intact entry of an epoch, with a payload from some forgotten past.
     Forgotten(u32),
+    /// An entry of an epoch that is intact for index 1.
+    Misplaced(u32),
 }
 
 use Bytes::*;
@@ -67,57 +75,93 @@ const FEWER_KINDS: [Held; 9] = [
     Unreadable(1),
 ];
 
-/// Every cluster of so many replicas that hold one of these kinds each.
+/// Some of them, and others that only edition 2 has.
+const KINDS_2: [Held; 12] = [
+    Unused(Spaces),
+    Unused(Appended(1)),
+    Used(1, Appended(1)),
+    Used(1, Noise),
+    Used(1, Forgotten(2)),
+    Used(1, Misplaced(1)),
+    RecordLost(1),
+    Used(2, Appended(2)),
+    Used(2, Noise),
+    FromZero(1),
+    Elsewhere(0),
+    Elsewhere(1),
+];
+
+/// Every cluster of a shape whose replicas hold one of these kinds each.
 pub struct Small {
-    replicas: usize,
+    pub shape: Shape,
+    /// The index of the slot.
+    first: u32,
     kinds: &'static [Held],
 }
 
 pub const THREE: Small = Small {
-    replicas: 3,
+    shape: Shape::edition_1(3, 1),
+    first: 1,
     kinds: &KINDS,
 };
 
 pub const FOUR: Small = Small {
-    replicas: 4,
+    shape: Shape::edition_1(4, 1),
+    first: 1,
     kinds: &FEWER_KINDS,
+};
+
+pub const FROM_THREE: Small = Small {
+    shape: Shape::edition_2(3, 1),
+    first: 3,
+    kinds: &KINDS_2,
 };
 
 impl Small {
     /// How many cases there are.
     pub fn cases(&self) -> usize {
-        self.kinds.len().pow(self.replicas as u32) * self.views()
+        self.kinds.len().pow(self.shape.n as u32) * self.views()
     }
 
     /// The case of a number below that.
     pub fn case(&self, number: usize) -> AgreedCase {
         let (leader, present) = self.view(number % self.views());
         let mut rest = number / self.views();
-        let mut cluster = Cluster::fresh(self.replicas, 1);
-        let mut holders = [0u32; 3];
-        for replica in 1..=self.replicas {
-            let held = self.kinds[rest % self.kinds.len()];
+        let mut held = Vec::new();
+        for _ in 0..self.shape.n {
+            held.push(self.kinds[rest % self.kinds.len()]);
             rest /= self.kinds.len();
-            put(&mut cluster, replica, held);
-            holders[held.epoch() as usize] |= 1 << (replica - 1);
+        }
+        let begins = |held: &Held| self.first + u32::from(matches!(held, Elsewhere(_)));
+        let firsts: Vec<u32> = held.iter().map(begins).collect();
+        let mut cluster = Cluster::of_firsts(self.shape, &firsts);
+        // One place means one index: who holds what the leader may have under each epoch.
+        let leader_first = firsts[leader - 1];
+        let mut holders = [0u32; 3];
+        for (at, held) in held.into_iter().enumerate() {
+            put(&mut cluster, at + 1, held);
+            if firsts[at] == leader_first {
+                holders[held.epoch() as usize] |= 1 << at;
+            }
         }
         let mut committed = Vec::new();
         for epoch in 1..=2 {
             let holders = holders[epoch as usize];
             let leader_holds = holders >> (leader - 1) & 1 == 1;
-            if leader_holds && holders.count_ones() as usize > self.replicas / 2 {
+            if leader_holds && holders.count_ones() as usize > self.shape.n / 2 {
                 committed.push(Committed {
                     slot: 1,
+                    index: leader_first,
                     epoch,
                     payload: appended(epoch).to_vec(),
                     holders,
+                    elsewhere: 0,
                 });
             }
         }
         AgreedCase {
             case: Case {
-                n: self.replicas,
-                m: 1,
+                shape: self.shape,
                 leader,
                 present,
                 cluster: cluster.bytes,
@@ -128,11 +172,11 @@ impl Small {
 
     /// Leaders, times the sets of others that are present beside the leader.
     fn views(&self) -> usize {
-        self.replicas * self.others()
+        self.shape.n * self.others()
     }
 
     fn others(&self) -> usize {
-        1 << (self.replicas - 1)
+        1 << (self.shape.n - 1)
     }
 
     /// A leader and a present word with the leader in it.
@@ -140,7 +184,7 @@ impl Small {
         let leader = number / self.others() + 1;
         let mut others = (number % self.others()) as u32;
         let mut present = 1 << (leader - 1);
-        for replica in 1..=self.replicas {
+        for replica in 1..=self.shape.n {
             if replica != leader {
                 present |= (others & 1) << (replica - 1);
                 others >>= 1;
@@ -155,7 +199,8 @@ impl Held {
     fn epoch(self) -> u32 {
         match self {
             Unused(_) => 0,
-            Used(epoch, _) | RecordLost(epoch) | Unreadable(epoch) => epoch,
+            Used(epoch, _) | RecordLost(epoch) => epoch,
+            Unreadable(epoch) | FromZero(epoch) | Elsewhere(epoch) => epoch,
         }
     }
 }
@@ -172,11 +217,22 @@ fn put(cluster: &mut Cluster, replica: usize, held: Held) {
             cluster.record_mut(replica, 1).fill(b'#');
         }
         Unreadable(epoch) => {
-            if epoch > 0 {
-                put(cluster, replica, Used(epoch, Appended(epoch)));
-            }
+            put_log(cluster, replica, epoch);
             cluster.header_mut(replica)[0] = b'#';
         }
+        FromZero(epoch) => {
+            put_log(cluster, replica, epoch);
+            let header = header_of(cluster.shape, replica, 0);
+            cluster.header_mut(replica).copy_from_slice(&header);
+        }
+        Elsewhere(epoch) => put_log(cluster, replica, epoch),
+    }
+}
+
+/// The slot as it was appended under an epoch, or unused for epoch 0.
+fn put_log(cluster: &mut Cluster, replica: usize, epoch: u32) {
+    if epoch > 0 {
+        put(cluster, replica, Used(epoch, Appended(epoch)));
     }
 }
 
@@ -186,6 +242,10 @@ fn put_bytes(cluster: &mut Cluster, replica: usize, bytes: Bytes) {
         Noise => cluster.entry_mut(replica, 1).fill(b'#'),
         Appended(epoch) => cluster.put_entry(replica, 1, epoch, appended(epoch)),
         Forgotten(epoch) => cluster.put_entry(replica, 1, epoch, b"forgotten"),
+        Misplaced(epoch) => {
+            let bytes = write_entry(epoch, 1, appended(epoch));
+            cluster.entry_mut(replica, 1).copy_from_slice(&bytes);
+        }
     }
 }
 

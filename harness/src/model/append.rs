@@ -5,30 +5,31 @@ use super::layout::{entry_offset, record_offset, ENTRY_LEN, MAX_PAYLOAD, RECORD_
 use super::read::judge_image;
 use super::record::write_record;
 use super::refusal::Refusal;
+use super::shape::Shape;
 
 /// Writes the entry, then the record, and answers the slot.
 pub fn append(
     image: &mut [u8],
+    shape: Shape,
     replica: usize,
-    n: usize,
-    m: usize,
     epoch: u32,
     payload: &[u8],
 ) -> Result<usize, Refusal> {
-    let log = judge_image(image, replica, n, m)?;
+    let log = judge_image(image, shape, replica)?;
     if epoch == 0 || epoch < log.last_epoch() {
         return Err(Refusal::AppendEpoch);
     }
     if payload.len() > MAX_PAYLOAD {
         return Err(Refusal::AppendPayload);
     }
-    if log.length == m {
+    if log.length == shape.m {
         return Err(Refusal::AppendFull);
     }
     let slot = log.length + 1;
-    let at = entry_offset(m, slot);
-    image[at..at + ENTRY_LEN].copy_from_slice(&write_entry(epoch, slot, payload));
-    let at = record_offset(slot);
-    image[at..at + RECORD_LEN].copy_from_slice(&write_record(epoch, slot));
+    let index = log.index(slot);
+    let at = entry_offset(shape, slot);
+    image[at..at + ENTRY_LEN].copy_from_slice(&write_entry(epoch, index, payload));
+    let at = record_offset(shape, slot);
+    image[at..at + RECORD_LEN].copy_from_slice(&write_record(epoch, index));
     Ok(slot)
 }

@@ -1,4 +1,4 @@
-//! The entry: a payload (the paper's reading) with the epoch and slot it was written for.
+//! The entry: a payload (the paper's reading) with the epoch and index it was written for.
 
 use super::checksum::checksum;
 use super::column::{read_column, read_epoch, write_column};
@@ -10,17 +10,17 @@ pub const PAYLOAD_OFFSET: usize = 26;
 /// What an entry turns out to be.
 #[derive(Clone, Copy, Debug, PartialEq, Eq)]
 pub enum EntryState<'a> {
-    /// Written for this slot, with its epoch and payload.
+    /// Written for this index, with its epoch and payload.
     Intact(u32, &'a [u8]),
     /// Anything else, a fresh entry included.
     NotIntact,
 }
 
-/// The entry of a slot under an epoch. The payload is at most 200 bytes.
-pub fn write_entry(epoch: u32, slot: usize, payload: &[u8]) -> [u8; ENTRY_LEN] {
+/// The entry of an index under an epoch. The payload is at most 200 bytes.
+pub fn write_entry(epoch: u32, index: u32, payload: &[u8]) -> [u8; ENTRY_LEN] {
     let mut bytes = [b' '; ENTRY_LEN];
     write_column(&mut bytes[0..11], u64::from(epoch));
-    write_column(&mut bytes[11..22], slot as u64);
+    write_column(&mut bytes[11..22], u64::from(index));
     write_column(&mut bytes[22..26], payload.len() as u64);
     let end = PAYLOAD_OFFSET + payload.len();
     bytes[PAYLOAD_OFFSET..end].copy_from_slice(payload);
@@ -30,8 +30,8 @@ pub fn write_entry(epoch: u32, slot: usize, payload: &[u8]) -> [u8; ENTRY_LEN] {
     bytes
 }
 
-/// Judges the 240 bytes at the start of `bytes` as the entry of a slot.
-pub fn judge_entry(bytes: &[u8], slot: usize) -> EntryState<'_> {
+/// Judges the 240 bytes at the start of `bytes` as the entry of an index.
+pub fn judge_entry(bytes: &[u8], index: u32) -> EntryState<'_> {
     let bytes = &bytes[0..ENTRY_LEN];
     let Some(epoch) = read_epoch(&bytes[0..11]) else {
         return EntryState::NotIntact;
@@ -43,7 +43,7 @@ pub fn judge_entry(bytes: &[u8], slot: usize) -> EntryState<'_> {
         return EntryState::NotIntact;
     }
     let payload = &bytes[PAYLOAD_OFFSET..PAYLOAD_OFFSET + length as usize];
-    if bytes == write_entry(epoch, slot, payload) {
+    if bytes == write_entry(epoch, index, payload) {
         EntryState::Intact(epoch, payload)
     } else {
         EntryState::NotIntact

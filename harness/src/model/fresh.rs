@@ -1,21 +1,30 @@
 //! A fresh image: a header, blank records and entries of spaces.
 
 use super::header::write_header;
-use super::layout::{image_len, record_offset, HEADER_LEN, RECORD_LEN};
+use super::layout::{header_len, image_len, record_offset, RECORD_LEN};
 use super::read::check_numbers;
 use super::record::BLANK_RECORD;
 use super::refusal::Refusal;
+use super::shape::Shape;
 
-/// Writes a fresh image over the whole lent buffer.
-pub fn fresh_image(image: &mut [u8], replica: usize, n: usize, m: usize) -> Result<(), Refusal> {
-    check_numbers(replica, n, m)?;
-    if image.len() != image_len(m) {
+/// Writes a fresh image over the whole lent buffer. Refusal 20 is tried just before 3.
+pub fn fresh_image(
+    image: &mut [u8],
+    shape: Shape,
+    replica: usize,
+    first: u32,
+) -> Result<(), Refusal> {
+    check_numbers(shape, replica)?;
+    if !shape.may_begin_at(u64::from(first)) {
+        return Err(Refusal::FirstIndex);
+    }
+    if image.len() != image_len(shape) {
         return Err(Refusal::BufferLength);
     }
     image.fill(b' ');
-    image[0..HEADER_LEN].copy_from_slice(&write_header(replica, n, m));
-    for slot in 1..=m {
-        let at = record_offset(slot);
+    image[0..header_len(shape)].copy_from_slice(&write_header(shape, replica, first));
+    for slot in 1..=shape.m {
+        let at = record_offset(shape, slot);
         image[at..at + RECORD_LEN].copy_from_slice(&BLANK_RECORD);
     }
     Ok(())

@@ -1,7 +1,10 @@
 //! Where things stand: a header, then m records, then m entries.
 
-/// Bytes of a header (the paper's head).
+use super::shape::Shape;
+
+/// Bytes of a header (the paper's head) in edition 1, and in edition 2, which has a column more.
 pub const HEADER_LEN: usize = 28;
+pub const HEADER_LEN_2: usize = 39;
 /// Bytes of a record (the paper's line).
 pub const RECORD_LEN: usize = 34;
 /// Bytes of an entry (the paper's cell).
@@ -14,27 +17,36 @@ pub const MAX_SLOTS: usize = 64;
 pub const MIN_REPLICAS: usize = 3;
 pub const MAX_REPLICAS: usize = 7;
 
-/// Bytes of an image of m slots.
-pub fn image_len(m: usize) -> usize {
-    HEADER_LEN + (RECORD_LEN + ENTRY_LEN) * m
+/// Bytes of a header of this edition.
+pub fn header_len(shape: Shape) -> usize {
+    if shape.edition == 2 {
+        HEADER_LEN_2
+    } else {
+        HEADER_LEN
+    }
+}
+
+/// Bytes of an image.
+pub fn image_len(shape: Shape) -> usize {
+    header_len(shape) + (RECORD_LEN + ENTRY_LEN) * shape.m
 }
 
 /// Bytes of a cluster (the paper's fleet): n images end to end.
-pub fn cluster_len(n: usize, m: usize) -> usize {
-    n * image_len(m)
+pub fn cluster_len(shape: Shape) -> usize {
+    shape.n * image_len(shape)
 }
 
 /// Where the image of a replica (the paper's cabinet) begins in the cluster.
-pub fn image_offset(m: usize, replica: usize) -> usize {
-    (replica - 1) * image_len(m)
+pub fn image_offset(shape: Shape, replica: usize) -> usize {
+    (replica - 1) * image_len(shape)
 }
 
 /// Where the record of a slot begins in its image.
-pub fn record_offset(slot: usize) -> usize {
-    HEADER_LEN + RECORD_LEN * (slot - 1)
+pub fn record_offset(shape: Shape, slot: usize) -> usize {
+    header_len(shape) + RECORD_LEN * (slot - 1)
 }
 
 /// Where the entry of a slot begins in its image.
-pub fn entry_offset(m: usize, slot: usize) -> usize {
-    HEADER_LEN + RECORD_LEN * m + ENTRY_LEN * (slot - 1)
+pub fn entry_offset(shape: Shape, slot: usize) -> usize {
+    header_len(shape) + RECORD_LEN * shape.m + ENTRY_LEN * (slot - 1)
 }

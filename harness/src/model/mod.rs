@@ -14,6 +14,7 @@ pub mod record;
 pub mod refusal;
 pub mod report;
 pub mod run;
+pub mod shape;
 pub mod step;
 pub mod survey;
 
@@ -22,10 +23,10 @@ pub use checksum::checksum;
 pub use column::{read_column, write_column};
 pub use entry::{judge_entry, write_entry, EntryState};
 pub use fresh::fresh_image;
-pub use header::{header_is_good, write_header};
+pub use header::{judge_header, write_header};
 pub use layout::{
-    cluster_len, entry_offset, image_len, image_offset, record_offset, ENTRY_LEN, HEADER_LEN,
-    MAX_PAYLOAD, MAX_REPLICAS, MAX_SLOTS, MIN_REPLICAS, RECORD_LEN,
+    cluster_len, entry_offset, header_len, image_len, image_offset, record_offset, ENTRY_LEN,
+    HEADER_LEN, HEADER_LEN_2, MAX_PAYLOAD, MAX_REPLICAS, MAX_SLOTS, MIN_REPLICAS, RECORD_LEN,
 };
 pub use payload::{has_payload, payload};
 pub use planner::{plan, Answer};
@@ -34,5 +35,6 @@ pub use record::{judge_record, write_record, RecordState, BLANK_RECORD};
 pub use refusal::Refusal;
 pub use report::report;
 pub use run::{run, RunAnswer, RunEnd};
+pub use shape::{index_of, Shape, LAST_INDEX};
 pub use step::{apply, next_store, step, Next, StepAnswer, Store, StoreKind};
 pub use survey::{survey, ReplicaRow, Survey};

@@ -2,15 +2,19 @@
 
 use super::entry::{judge_entry, EntryState};
 use super::layout::entry_offset;
-use super::read::judge_image;
+use super::read::{judge_image, Log};
 use super::refusal::Refusal;
+use super::shape::Shape;
 
 /// The part of the image that is the slot's payload, or the empty part.
-pub fn payload(image: &[u8], replica: usize, n: usize, m: usize, slot: usize) -> &[u8] {
-    let Ok(true) = has_payload(image, replica, n, m, slot) else {
+pub fn payload(image: &[u8], shape: Shape, replica: usize, slot: usize) -> &[u8] {
+    let Ok(log) = judge_image(image, shape, replica) else {
         return &[];
     };
-    match judge_entry(&image[entry_offset(m, slot)..], slot) {
+    if !holds_payload(&log, shape, slot) {
+        return &[];
+    }
+    match judge_entry(&image[entry_offset(shape, slot)..], log.index(slot)) {
         EntryState::Intact(_, payload) => payload,
         EntryState::NotIntact => &[],
     }
@@ -19,14 +23,15 @@ pub fn payload(image: &[u8], replica: usize, n: usize, m: usize, slot: usize) ->
 /// Whether the slot has a payload. An empty payload is one too.
 pub fn has_payload(
     image: &[u8],
+    shape: Shape,
     replica: usize,
-    n: usize,
-    m: usize,
     slot: usize,
 ) -> Result<bool, Refusal> {
-    let log = judge_image(image, replica, n, m)?;
-    if slot < 1 || slot > m {
-        return Ok(false);
-    }
-    Ok(log.verdict(slot).has_payload())
+    let log = judge_image(image, shape, replica)?;
+    Ok(holds_payload(&log, shape, slot))
+}
+
+/// A slot that the image does not have holds none.
+fn holds_payload(log: &Log, shape: Shape, slot: usize) -> bool {
+    (1..=shape.m).contains(&slot) && log.verdict(slot).has_payload()
 }

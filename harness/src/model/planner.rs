@@ -2,6 +2,7 @@
 
 use super::read::Verdict;
 use super::refusal::Refusal;
+use super::shape::Shape;
 use super::survey::{survey, ReplicaRow, Survey};
 
 /// Plan bytes. To truncate is the paper's cut.
@@ -46,20 +47,19 @@ impl Decision {
 /// Fills the lent plan and table and answers whether recovery can begin.
 pub fn plan(
     cluster: &[u8],
-    n: usize,
-    m: usize,
+    shape: Shape,
     leader: usize,
     present: u32,
     plan: &mut [u8],
     rows: &mut [ReplicaRow],
 ) -> Result<Answer, Refusal> {
-    let survey = survey(cluster, n, m, leader, present)?;
-    if plan.len() != m || rows.len() != n {
+    let survey = survey(cluster, shape, leader, present)?;
+    if plan.len() != shape.m || rows.len() != shape.n {
         return Err(Refusal::LentLength);
     }
     let decision = decide(&survey);
     plan.copy_from_slice(&decision.plan);
-    for replica in 1..=n {
+    for replica in 1..=shape.n {
         rows[replica - 1] = survey.row(replica);
     }
     Ok(decision.answer)
@@ -67,7 +67,7 @@ pub fn plan(
 
 /// Works out the plan from the logs within reach.
 pub fn decide(survey: &Survey) -> Decision {
-    let mut plan = vec![PLAN_UNUSED; survey.m];
+    let mut plan = vec![PLAN_UNUSED; survey.shape.m];
     let length = survey.leader_log().length;
     let mut end = length;
     for slot in 1..=length {
@@ -102,16 +102,17 @@ fn decide_slot(survey: &Survey, slot: usize) -> u8 {
 /// Fetch if anyone has it; else truncate if those that did not say that they lack it, the leader and
 /// those out of reach among them, are not more than half of all; else wait.
 fn decide_faulty_slot(survey: &Survey, slot: usize) -> u8 {
+    let n = survey.shape.n;
     let mut dont_have: u32 = 0;
-    for replica in 1..=survey.n {
+    for replica in 1..=n {
         match reply(survey, replica, slot) {
             Some(Reply::Have) => return PLAN_FETCH + replica as u8,
             Some(Reply::DontHave) => dont_have |= 1 << (replica - 1),
             Some(Reply::HaveFaulty) | None => {}
         }
     }
-    let may_hold_it = survey.n - dont_have.count_ones() as usize;
-    if 2 * may_hold_it <= survey.n {
+    let may_hold_it = n - dont_have.count_ones() as usize;
+    if 2 * may_hold_it <= n {
         PLAN_TRUNCATE
     } else {
         PLAN_WAIT

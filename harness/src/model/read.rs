@@ -1,13 +1,14 @@
-//! Reading one image: its length, and an epoch and a verdict for every slot.
+//! Reading one image: its length, its first index, and an epoch and a verdict for every slot.
 
 use super::entry::{judge_entry, EntryState};
-use super::header::header_is_good;
+use super::header::judge_header;
 use super::layout::{
-    entry_offset, image_len, record_offset, ENTRY_LEN, HEADER_LEN, MAX_REPLICAS, MAX_SLOTS,
+    entry_offset, header_len, image_len, record_offset, ENTRY_LEN, MAX_REPLICAS, MAX_SLOTS,
     MIN_REPLICAS, RECORD_LEN,
 };
 use super::record::{judge_record, RecordState};
 use super::refusal::Refusal;
+use super::shape::{index_of, Shape};
 
 /// What the reader says of a slot. The paper's words stand beside the cases.
 #[derive(Clone, Copy, Debug, PartialEq, Eq)]
@@ -44,11 +45,17 @@ impl Verdict {
 #[derive(Clone, Debug, PartialEq, Eq)]
 pub struct Log {
     pub length: usize,
+    /// The index of slot 1.
+    pub first: u32,
     pub epochs: Vec<u32>,
     pub verdicts: Vec<Verdict>,
 }
 
 impl Log {
+    pub fn index(&self, slot: usize) -> u32 {
+        index_of(self.first, slot)
+    }
+
     pub fn epoch(&self, slot: usize) -> u32 {
         self.epochs[slot - 1]
     }
@@ -67,36 +74,34 @@ impl Log {
     }
 }
 
-/// Reads an image into the two lent buffers and answers its length.
+/// Reads an image into the two lent buffers and answers its length and its first index.
 pub fn read(
     image: &[u8],
+    shape: Shape,
     replica: usize,
-    n: usize,
-    m: usize,
     epochs: &mut [u32],
     verdicts: &mut [u8],
-) -> Result<usize, Refusal> {
-    let log = judge_image(image, replica, n, m)?;
-    if epochs.len() != m || verdicts.len() != m {
+) -> Result<(usize, u32), Refusal> {
+    let log = judge_image(image, shape, replica)?;
+    if epochs.len() != shape.m || verdicts.len() != shape.m {
         return Err(Refusal::LentLength);
     }
-    for slot in 1..=m {
+    for slot in 1..=shape.m {
         epochs[slot - 1] = log.epoch(slot);
         verdicts[slot - 1] = log.verdict(slot) as u8;
     }
-    Ok(log.length)
+    Ok((log.length, log.first))
 }
 
 /// Judges a whole image. Each refusal looks at all slots before the next is tried.
-pub fn judge_image(image: &[u8], replica: usize, n: usize, m: usize) -> Result<Log, Refusal> {
-    check_numbers(replica, n, m)?;
-    if image.len() != image_len(m) {
+pub fn judge_image(image: &[u8], shape: Shape, replica: usize) -> Result<Log, Refusal> {
+    check_numbers(shape, replica)?;
+    if image.len() != image_len(shape) {
         return Err(Refusal::BufferLength);
     }
-    if !header_is_good(&image[0..HEADER_LEN], replica, n, m) {
-        return Err(Refusal::Header);
-    }
-    let slots = judge_slots(image, m);
+    let header = &image[0..header_len(shape)];
+    let first = judge_header(header, shape, replica).ok_or(Refusal::Header)?;
+    let slots = judge_slots(image, shape, first);
     if used_after_blank(&slots) {
         return Err(Refusal::UsedAfterBlank);
     }
@@ -108,29 +113,32 @@ pub fn judge_image(image: &[u8], replica: usize, n: usize, m: usize) -> Result<L
     if epoch_falls(&epochs[0..length]) {
         return Err(Refusal::EpochFalls);
     }
-    let verdicts = (1..=m).map(|slot| verdict(&slots, length, slot)).collect();
+    let verdicts = (1..=shape.m)
+        .map(|slot| verdict(&slots, length, slot))
+        .collect();
     Ok(Log {
         length,
+        first,
         epochs,
         verdicts,
     })
 }
 
 /// Refusals 1 and 2 of a call that names one replica.
-pub fn check_numbers(replica: usize, n: usize, m: usize) -> Result<(), Refusal> {
-    check_counts(n, m)?;
-    if replica < 1 || replica > n {
+pub fn check_numbers(shape: Shape, replica: usize) -> Result<(), Refusal> {
+    check_shape(shape)?;
+    if replica < 1 || replica > shape.n {
         return Err(Refusal::ReplicaCount);
     }
     Ok(())
 }
 
 /// Refusals 1 and 2 of a call that names a cluster.
-pub fn check_counts(n: usize, m: usize) -> Result<(), Refusal> {
-    if !(1..=MAX_SLOTS).contains(&m) {
+pub fn check_shape(shape: Shape) -> Result<(), Refusal> {
+    if !(1..=MAX_SLOTS).contains(&shape.m) {
         return Err(Refusal::SlotCount);
     }
-    if !(MIN_REPLICAS..=MAX_REPLICAS).contains(&n) {
+    if !(MIN_REPLICAS..=MAX_REPLICAS).contains(&shape.n) || !(1..=2).contains(&shape.edition) {
         return Err(Refusal::ReplicaCount);
     }
     Ok(())
@@ -149,16 +157,17 @@ impl SlotState<'_> {
     }
 }
 
-fn judge_slots(image: &[u8], m: usize) -> Vec<SlotState<'_>> {
+fn judge_slots(image: &[u8], shape: Shape, first: u32) -> Vec<SlotState<'_>> {
     let mut slots = Vec::new();
-    for slot in 1..=m {
-        let at = record_offset(slot);
+    for slot in 1..=shape.m {
+        let at = record_offset(shape, slot);
         let record = &image[at..at + RECORD_LEN];
-        let at = entry_offset(m, slot);
+        let at = entry_offset(shape, slot);
         let entry = &image[at..at + ENTRY_LEN];
+        let index = index_of(first, slot);
         slots.push(SlotState {
-            record: judge_record(record, slot),
-            entry: judge_entry(entry, slot),
+            record: judge_record(record, index),
+            entry: judge_entry(entry, index),
             entry_is_spaces: entry.iter().all(|&byte| byte == b' '),
         });
     }

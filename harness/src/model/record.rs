@@ -14,7 +14,7 @@ pub const BLANK_RECORD: [u8; RECORD_LEN] = {
 /// What a record turns out to be.
 #[derive(Clone, Copy, Debug, PartialEq, Eq)]
 pub enum RecordState {
-    /// Written for this slot under this epoch.
+    /// Written for this index under this epoch.
     Good(u32),
     /// Unused.
     Blank,
@@ -22,25 +22,25 @@ pub enum RecordState {
     Bad,
 }
 
-/// The record of a slot under an epoch.
-pub fn write_record(epoch: u32, slot: usize) -> [u8; RECORD_LEN] {
+/// The record of an index under an epoch.
+pub fn write_record(epoch: u32, index: u32) -> [u8; RECORD_LEN] {
     let mut bytes = BLANK_RECORD;
     write_column(&mut bytes[0..11], u64::from(epoch));
-    write_column(&mut bytes[11..22], slot as u64);
+    write_column(&mut bytes[11..22], u64::from(index));
     let sum = checksum(&bytes[0..22]);
     write_column(&mut bytes[22..33], u64::from(sum));
     bytes
 }
 
-/// Judges the record of a slot by writing it again and comparing.
-pub fn judge_record(bytes: &[u8], slot: usize) -> RecordState {
+/// Judges the record of an index by writing it again and comparing.
+pub fn judge_record(bytes: &[u8], index: u32) -> RecordState {
     if bytes == BLANK_RECORD {
         return RecordState::Blank;
     }
     let Some(epoch) = read_epoch(&bytes[0..11]) else {
         return RecordState::Bad;
     };
-    if bytes == write_record(epoch, slot) {
+    if bytes == write_record(epoch, index) {
         RecordState::Good(epoch)
     } else {
         RecordState::Bad

@@ -1,15 +1,16 @@
 //! Why a call is refused. A refused call changes no byte of what it was lent.
 
-/// The reasons, in the order in which the lowest one wins.
+/// The reasons, by number. Of several that apply the lowest wins, but 20 is tried just before 3 and 21
+/// just after 12.
 #[derive(Clone, Copy, Debug, PartialEq, Eq, PartialOrd, Ord)]
 pub enum Refusal {
     /// m is not 1 to 64.
     SlotCount = 1,
-    /// n is not 3 to 7, or the replica is not 1 to n.
+    /// n is not 3 to 7, the replica is not 1 to n, or the edition is not 1 or 2.
     ReplicaCount = 2,
     /// The image or cluster buffer has the wrong length.
     BufferLength = 3,
-    /// The header is not the one written for this replica, n and m.
+    /// The header is not one written for this replica and shape, or no log may begin at its first index.
     Header = 4,
     /// A used slot stands after a blank record.
     UsedAfterBlank = 5,
@@ -31,6 +32,10 @@ pub enum Refusal {
     LentLength = 13,
     /// Printing program: the command line is not well formed.
     CommandLine = 14,
+    /// Fresh image: the first index is 0, is not 1 in edition 1, or leaves none for the last slot.
+    FirstIndex = 20,
+    /// Another readable present image begins at another index than the leader's.
+    FirstDiffers = 21,
 }
 
 impl Refusal {

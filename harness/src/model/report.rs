@@ -1,10 +1,11 @@
-//! The printing program, from input bytes to output bytes.
+//! The printing program, from input bytes to output bytes. It is for edition 1 alone.
 
 use super::column::{read_column, write_column};
 use super::layout::cluster_len;
 use super::planner::{decide, Answer};
-use super::read::check_counts;
+use super::read::check_shape;
 use super::refusal::Refusal;
+use super::shape::Shape;
 use super::survey::survey;
 
 const MAX_INPUT: usize = 65_536;
@@ -12,8 +13,7 @@ const COMMAND_LEN: usize = 14;
 
 /// The numbers of the command line. No present word means the leader alone.
 struct Command {
-    n: usize,
-    m: usize,
+    shape: Shape,
     leader: usize,
     present: Option<u32>,
 }
@@ -37,19 +37,19 @@ fn report_plan(input: &[u8]) -> Result<Vec<u8>, Refusal> {
     }
     let command = read_command(input).ok_or(Refusal::CommandLine)?;
     let cluster = &input[COMMAND_LEN..];
-    let Command { n, m, leader, .. } = command;
+    let Command { shape, leader, .. } = command;
     let present = match command.present {
         Some(word) => word,
-        None => leader_alone(cluster, n, m, leader)?,
+        None => leader_alone(cluster, shape, leader)?,
     };
-    let survey = survey(cluster, n, m, leader, present)?;
+    let survey = survey(cluster, shape, leader, present)?;
     let decision = decide(&survey);
     let (status, number) = match decision.answer {
         Answer::Ready(length) => (0, length),
         Answer::Waiting(slot) => (1, slot),
     };
     let mut output = Vec::new();
-    push_column(&mut output, 4, n as u64);
+    push_column(&mut output, 4, shape.n as u64);
     push_column(&mut output, 4, leader as u64);
     push_column(&mut output, 4, status);
     push_column(&mut output, 4, number as u64);
@@ -65,12 +65,12 @@ fn report_plan(input: &[u8]) -> Result<Vec<u8>, Refusal> {
 }
 
 /// The word of the leader alone. A leader that is no replica has none: 12, behind 1, 2 and 3.
-fn leader_alone(cluster: &[u8], n: usize, m: usize, leader: usize) -> Result<u32, Refusal> {
-    check_counts(n, m)?;
-    if cluster.len() != cluster_len(n, m) {
+fn leader_alone(cluster: &[u8], shape: Shape, leader: usize) -> Result<u32, Refusal> {
+    check_shape(shape)?;
+    if cluster.len() != cluster_len(shape) {
         return Err(Refusal::BufferLength);
     }
-    if !(1..=n).contains(&leader) {
+    if !(1..=shape.n).contains(&leader) {
         return Err(Refusal::Leader);
     }
     Ok(1 << (leader - 1))
@@ -81,9 +81,10 @@ fn read_command(input: &[u8]) -> Option<Command> {
     if input.len() < COMMAND_LEN || input[COMMAND_LEN - 1] != b'\n' {
         return None;
     }
+    let n = read_column(&input[0..3])? as usize;
+    let m = read_column(&input[3..6])? as usize;
     Some(Command {
-        n: read_column(&input[0..3])? as usize,
-        m: read_column(&input[3..6])? as usize,
+        shape: Shape::edition_1(n, m),
         leader: read_column(&input[6..9])? as usize,
         present: read_present(&input[9..13])?,
     })

@@ -1,6 +1,7 @@
 //! A recovery run: steps until nothing is left or the budget is used.
 
 use super::refusal::Refusal;
+use super::shape::Shape;
 use super::step::{apply, next_store, Next};
 
 /// How a run ends.
@@ -24,15 +25,14 @@ pub struct RunAnswer {
 /// Makes at most `budget` stores.
 pub fn run(
     cluster: &mut [u8],
-    n: usize,
-    m: usize,
+    shape: Shape,
     leader: usize,
     present: u32,
     budget: u64,
 ) -> Result<RunAnswer, Refusal> {
     let mut stores = 0;
     loop {
-        let end = match next_store(cluster, n, m, leader, present)? {
+        let end = match next_store(cluster, shape, leader, present)? {
             Next::Done => RunEnd::Done,
             Next::Waiting(slot) => RunEnd::Waiting(slot),
             Next::Store(_) if stores == budget => RunEnd::Spent,

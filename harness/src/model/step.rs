@@ -5,6 +5,7 @@ use super::planner::{decide, Answer, Decision, PLAN_FETCH, PLAN_REWRITE_RECORD, 
 use super::read::{Log, Verdict};
 use super::record::{write_record, BLANK_RECORD};
 use super::refusal::Refusal;
+use super::shape::Shape;
 use super::survey::{survey, Survey};
 
 /// What a store writes.
@@ -53,12 +54,11 @@ pub enum StepAnswer {
 /// Makes the first store still outstanding.
 pub fn step(
     cluster: &mut [u8],
-    n: usize,
-    m: usize,
+    shape: Shape,
     leader: usize,
     present: u32,
 ) -> Result<StepAnswer, Refusal> {
-    match next_store(cluster, n, m, leader, present)? {
+    match next_store(cluster, shape, leader, present)? {
         Next::Waiting(slot) => Ok(StepAnswer::Waiting(slot)),
         Next::Done => Ok(StepAnswer::Done),
         Next::Store(store) => {
@@ -80,12 +80,11 @@ pub fn apply(cluster: &mut [u8], store: &Store) {
 /// Finds the first store still outstanding and writes nothing.
 pub fn next_store(
     cluster: &[u8],
-    n: usize,
-    m: usize,
+    shape: Shape,
     leader: usize,
     present: u32,
 ) -> Result<Next, Refusal> {
-    let survey = survey(cluster, n, m, leader, present)?;
+    let survey = survey(cluster, shape, leader, present)?;
     let decision = decide(&survey);
     if let Answer::Waiting(slot) = decision.answer {
         return Ok(Next::Waiting(slot));
@@ -93,7 +92,7 @@ pub fn next_store(
     if let Some(store) = leader_store(cluster, &survey, &decision) {
         return Ok(Next::Store(store));
     }
-    for replica in 1..=n {
+    for replica in 1..=shape.n {
         if replica == leader {
             continue;
         }
@@ -109,24 +108,24 @@ pub fn next_store(
 
 /// The leader's log first: the truncation, then fetched entries, then lost records.
 fn leader_store(cluster: &[u8], survey: &Survey, decision: &Decision) -> Option<Store> {
-    let leader = survey.leader;
+    let (shape, leader) = (survey.shape, survey.leader);
     let log = survey.leader_log();
     for slot in (1..=log.length).rev() {
         let truncated = (1..=slot).any(|lower| decision.plan_byte(lower) == PLAN_TRUNCATE);
         if truncated {
-            return Some(blank_store(survey.m, leader, slot));
+            return Some(blank_store(shape, leader, slot));
         }
     }
     for slot in 1..=log.length {
         let byte = decision.plan_byte(slot);
         if byte > PLAN_FETCH {
             let donor = usize::from(byte - PLAN_FETCH);
-            return Some(entry_store(cluster, survey.m, leader, slot, donor));
+            return Some(entry_store(cluster, shape, leader, slot, donor));
         }
     }
     for slot in 1..=log.length {
         if decision.plan_byte(slot) == PLAN_REWRITE_RECORD {
-            return Some(record_store(survey.m, leader, slot, log.epoch(slot)));
+            return Some(record_store(shape, leader, log, slot, log.epoch(slot)));
         }
     }
     None
@@ -134,30 +133,36 @@ fn leader_store(cluster: &[u8], survey: &Survey, decision: &Decision) -> Option<
 
 /// Another replica, once nothing is outstanding on the leader.
 fn follower_store(cluster: &[u8], survey: &Survey, replica: usize, log: &Log) -> Option<Store> {
-    let m = survey.m;
+    let shape = survey.shape;
     let leader_log = survey.leader_log();
     let keep_below = first_difference(log, leader_log);
     if log.length >= keep_below {
-        return Some(blank_store(m, replica, log.length));
+        return Some(blank_store(shape, replica, log.length));
     }
     for slot in 1..keep_below {
         if log.verdict(slot).is_faulty() {
-            return Some(entry_store(cluster, m, replica, slot, survey.leader));
+            return Some(entry_store(cluster, shape, replica, slot, survey.leader));
         }
     }
     for slot in 1..keep_below {
         if log.verdict(slot) == Verdict::RecordLost {
-            return Some(record_store(m, replica, slot, log.epoch(slot)));
+            return Some(record_store(shape, replica, log, slot, log.epoch(slot)));
         }
     }
     // Only the lowest missing slot matters: its record makes the next one the lowest.
     if log.length < leader_log.length {
         let slot = log.length + 1;
-        let entry = entry_store(cluster, m, replica, slot, survey.leader);
+        let entry = entry_store(cluster, shape, replica, slot, survey.leader);
         if cluster[entry.offset..entry.offset + ENTRY_LEN] != entry.bytes[..] {
             return Some(entry);
         }
-        return Some(record_store(m, replica, slot, leader_log.epoch(slot)));
+        return Some(record_store(
+            shape,
+            replica,
+            log,
+            slot,
+            leader_log.epoch(slot),
+        ));
     }
     None
 }
@@ -172,35 +177,36 @@ fn first_difference(log: &Log, leader_log: &Log) -> usize {
     log.length + 1
 }
 
-fn blank_store(m: usize, replica: usize, slot: usize) -> Store {
+fn blank_store(shape: Shape, replica: usize, slot: usize) -> Store {
     Store {
         replica,
         slot,
         kind: StoreKind::Blank,
-        offset: image_offset(m, replica) + record_offset(slot),
+        offset: image_offset(shape, replica) + record_offset(shape, slot),
         bytes: BLANK_RECORD.to_vec(),
     }
 }
 
-fn record_store(m: usize, replica: usize, slot: usize, epoch: u32) -> Store {
-    let bytes: [u8; RECORD_LEN] = write_record(epoch, slot);
+/// The record of a slot of this log, which begins where the replica's header says.
+fn record_store(shape: Shape, replica: usize, log: &Log, slot: usize, epoch: u32) -> Store {
+    let bytes: [u8; RECORD_LEN] = write_record(epoch, log.index(slot));
     Store {
         replica,
         slot,
         kind: StoreKind::Record,
-        offset: image_offset(m, replica) + record_offset(slot),
+        offset: image_offset(shape, replica) + record_offset(shape, slot),
         bytes: bytes.to_vec(),
     }
 }
 
 /// The donor's entry of the same slot, all 240 bytes.
-fn entry_store(cluster: &[u8], m: usize, replica: usize, slot: usize, donor: usize) -> Store {
-    let from = image_offset(m, donor) + entry_offset(m, slot);
+fn entry_store(cluster: &[u8], shape: Shape, replica: usize, slot: usize, donor: usize) -> Store {
+    let from = image_offset(shape, donor) + entry_offset(shape, slot);
     Store {
         replica,
         slot,
         kind: StoreKind::Entry,
-        offset: image_offset(m, replica) + entry_offset(m, slot),
+        offset: image_offset(shape, replica) + entry_offset(shape, slot),
         bytes: cluster[from..from + ENTRY_LEN].to_vec(),
     }
 }

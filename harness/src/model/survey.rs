@@ -1,8 +1,9 @@
 //! Asking every replica of a cluster for its log.
 
 use super::layout::{cluster_len, image_len, image_offset};
-use super::read::{check_counts, judge_image, Log};
+use super::read::{check_shape, judge_image, Log};
 use super::refusal::Refusal;
+use super::shape::Shape;
 
 /// The planner's row for one replica (the paper's row).
 #[repr(C)]
@@ -16,8 +17,7 @@ pub struct ReplicaRow {
 
 /// The logs within reach: none for a replica that is away or unreadable.
 pub struct Survey {
-    pub n: usize,
-    pub m: usize,
+    pub shape: Shape,
     pub leader: usize,
     pub logs: Vec<Option<Log>>,
 }
@@ -50,35 +50,42 @@ pub fn is_present(present: u32, replica: usize) -> bool {
     present & (1 << (replica - 1)) != 0
 }
 
-/// Reads every present image, with refusals 1, 2, 3, 11 and 12.
+/// Reads every present image, with refusals 1, 2, 3, 11, 12 and 21.
 pub fn survey(
     cluster: &[u8],
-    n: usize,
-    m: usize,
+    shape: Shape,
     leader: usize,
     present: u32,
 ) -> Result<Survey, Refusal> {
-    check_counts(n, m)?;
-    if cluster.len() != cluster_len(n, m) {
+    check_shape(shape)?;
+    if cluster.len() != cluster_len(shape) {
         return Err(Refusal::BufferLength);
     }
-    if present >> n != 0 {
+    if present >> shape.n != 0 {
         return Err(Refusal::Present);
     }
-    if leader < 1 || leader > n {
+    if leader < 1 || leader > shape.n {
         return Err(Refusal::Leader);
     }
     let mut logs = Vec::new();
-    for replica in 1..=n {
+    for replica in 1..=shape.n {
         logs.push(if is_present(present, replica) {
-            let at = image_offset(m, replica);
-            judge_image(&cluster[at..at + image_len(m)], replica, n, m).ok()
+            let at = image_offset(shape, replica);
+            judge_image(&cluster[at..at + image_len(shape)], shape, replica).ok()
         } else {
             None
         });
     }
-    if logs[leader - 1].is_none() {
+    let Some(leader_log) = &logs[leader - 1] else {
         return Err(Refusal::Leader);
+    };
+    let first = leader_log.first;
+    if logs.iter().flatten().any(|log| log.first != first) {
+        return Err(Refusal::FirstDiffers);
     }
-    Ok(Survey { n, m, leader, logs })
+    Ok(Survey {
+        shape,
+        leader,
+        logs,
+    })
 }

@@ -11,9 +11,9 @@ use crate::generate::{Case, Committed};
 use crate::model::planner::{PLAN_FETCH, PLAN_TRUNCATE, PLAN_WAIT};
 use crate::model::survey::is_present;
 use crate::model::{
-    apply, entry_offset, image_len, image_offset, next_store, record_offset, Answer, EntryState,
-    Log, Next, Refusal, ReplicaRow, RunEnd, StepAnswer, Store, StoreKind, Verdict, ENTRY_LEN,
-    RECORD_LEN,
+    apply, entry_offset, header_len, image_len, image_offset, index_of, next_store, record_offset,
+    Answer, EntryState, Log, Next, Refusal, ReplicaRow, RunEnd, Shape, StepAnswer, Store,
+    StoreKind, Verdict, ENTRY_LEN, LAST_INDEX, RECORD_LEN,
 };
 
 /// A damaged cluster and what was found there first.
@@ -23,6 +23,8 @@ pub struct Start<'a> {
     pub committed: &'a [Committed],
     /// The replicas that are present and readable; none if the planner refuses.
     pub within_reach: u32,
+    /// The index at which their logs begin; 1 if the planner refuses.
+    pub first: u32,
     pub answer: Result<Answer, Refusal>,
     pub plan: Vec<u8>,
     pub end: Result<RunEnd, Refusal>,
@@ -33,13 +35,16 @@ pub struct Start<'a> {
 impl<'a> Start<'a> {
     pub fn new(code: Code, case: &'a Case, committed: &'a [Committed]) -> Start<'a> {
         let (answer, plan, rows) = planned(code, case, &case.cluster);
-        let mut within_reach = 0;
+        let (mut within_reach, mut first) = (0, 1);
         if answer.is_ok() {
-            for replica in 1..=case.n {
+            for replica in 1..=case.shape.n {
                 if rows[replica - 1].readable == 1 {
                     within_reach |= 1 << (replica - 1);
                 }
             }
+            let image = image(&case.cluster, case.shape, case.leader);
+            let log = code.judge_image(image, case.shape, case.leader);
+            first = log.expect("a leader that is not refused is read").first;
         }
         let mut recovered = case.cluster.clone();
         let full = full_run(code, case, &mut recovered);
@@ -48,6 +53,7 @@ impl<'a> Start<'a> {
             case,
             committed,
             within_reach,
+            first,
             answer,
             plan,
             end: full.map(|answer| answer.0),
@@ -90,12 +96,21 @@ impl<'a> Start<'a> {
             Ok(Answer::Waiting(_)) => coverage.waiting += 1,
             Err(_) => coverage.refused += 1,
         }
+        coverage.first_differs += u64::from(self.answer == Err(Refusal::FirstDiffers));
         if self.answer.is_ok() {
-            coverage.committed += self.committed.len() as u64;
-            if self.case.n % 2 == 0 {
-                coverage.even += self.committed.len() as u64;
+            let committed = self.committed.len() as u64;
+            coverage.committed += committed;
+            if self.case.shape.n % 2 == 0 {
+                coverage.even += committed;
             }
+            if self.case.shape.edition == 2 {
+                coverage.edition_2 += committed;
+            }
+            let elsewhere = |one: &&Committed| one.elsewhere != 0;
+            coverage.elsewhere += self.committed.iter().filter(elsewhere).count() as u64;
             coverage.truncated += u64::from(self.plan.contains(&PLAN_TRUNCATE));
+            let last = self.index(self.case.shape.m);
+            coverage.last_index += u64::from(last == LAST_INDEX);
         }
         coverage.most_stores = coverage.most_stores.max(self.stores);
     }
@@ -105,11 +120,22 @@ impl<'a> Start<'a> {
         if self.answer.is_err() {
             return Ok(());
         }
-        for replica in 1..=self.case.n {
+        for replica in 1..=self.case.shape.n {
             let readable = is_present(self.case.present, replica)
                 && self.log(&self.case.cluster, replica).is_ok();
             ensure(readable == is_present(self.within_reach, replica), || {
                 format!("the row of replica {replica}")
+            })?;
+        }
+        self.check_firsts(&self.case.cluster)
+    }
+
+    /// All logs within reach begin at one index.
+    fn check_firsts(&self, now: &[u8]) -> Result<(), String> {
+        for replica in self.replicas_within_reach() {
+            let first = self.log(now, replica)?.first;
+            ensure(first == self.first, || {
+                format!("the log of replica {replica} begins at {first}")
             })?;
         }
         Ok(())
@@ -153,7 +179,7 @@ impl<'a> Start<'a> {
 
     /// The lowest replica within reach that has a committed payload intact.
     fn lowest_copy(&self, committed: &Committed) -> Result<Option<usize>, String> {
-        for replica in 1..=self.case.n {
+        for replica in 1..=self.case.shape.n {
             if replica == self.case.leader || !is_present(self.within_reach, replica) {
                 continue;
             }
@@ -168,12 +194,14 @@ impl<'a> Start<'a> {
 
     /// Recovery done: record and entry are as the writer writes them, wherever one can look.
     fn check_stored_everywhere(&self, committed: &Committed) -> Result<(), String> {
-        let Committed { slot, epoch, .. } = *committed;
+        let Committed {
+            slot, index, epoch, ..
+        } = *committed;
         for replica in self.replicas_within_reach() {
-            let record = record(&self.recovered, self.case.m, replica, slot);
-            let entry = entry(&self.recovered, self.case.m, replica, slot);
-            let stored = record == self.code.write_record(epoch, slot)
-                && entry == self.code.write_entry(epoch, slot, &committed.payload);
+            let record = record(&self.recovered, self.case.shape, replica, slot);
+            let entry = entry(&self.recovered, self.case.shape, replica, slot);
+            let stored = record == self.code.write_record(epoch, index)
+                && entry == self.code.write_entry(epoch, index, &committed.payload);
             ensure(stored, || {
                 format!("slot {slot} of replica {replica} is not stored after recovery")
             })?;
@@ -221,18 +249,22 @@ impl<'a> Start<'a> {
         self.check_bound(stores)
     }
 
-    /// Nothing within reach means that nothing may change at all.
+    /// Nothing within reach means that nothing may change at all. Within reach no store writes a header,
+    /// so that every log begins where it began.
     fn check_untouched(&self, now: &[u8]) -> Result<(), String> {
         if self.answer.is_err() {
             return ensure(now == self.case.cluster, || "a refused call wrote".into());
         }
-        for replica in 1..=self.case.n {
-            if is_present(self.within_reach, replica) {
-                continue;
-            }
-            let before = image(&self.case.cluster, self.case.m, replica);
-            ensure(image(now, self.case.m, replica) == before, || {
-                format!("replica {replica} is out of reach and was written")
+        let shape = self.case.shape;
+        for replica in 1..=shape.n {
+            let end = if is_present(self.within_reach, replica) {
+                header_len(shape)
+            } else {
+                image_len(shape)
+            };
+            let untouched = |cluster| &image(cluster, shape, replica)[..end];
+            ensure(untouched(now) == untouched(&self.case.cluster), || {
+                format!("one of the first {end} bytes of replica {replica} was written")
             })?;
         }
         Ok(())
@@ -240,21 +272,23 @@ impl<'a> Start<'a> {
 
     /// A committed payload stays where it was, and nothing else appears in its place.
     fn check_kept(&self, now: &[u8], committed: &Committed) -> Result<(), String> {
-        let Committed { slot, epoch, .. } = *committed;
+        let Committed {
+            slot, index, epoch, ..
+        } = *committed;
         for replica in self.replicas_within_reach() {
             let log = self.log(now, replica)?;
             let used = slot <= log.length && log.epoch(slot) == epoch;
-            let now = entry(now, self.case.m, replica, slot);
+            let now = entry(now, self.case.shape, replica, slot);
             if is_present(committed.holders, replica) {
                 ensure(used, || {
                     format!("replica {replica} lost slot {slot} of epoch {epoch}")
                 })?;
-                let before = entry(&self.case.cluster, self.case.m, replica, slot);
-                ensure(!intact_under(before, slot, epoch) || now == before, || {
+                let before = entry(&self.case.cluster, self.case.shape, replica, slot);
+                ensure(!intact_under(before, index, epoch) || now == before, || {
                     format!("replica {replica} lost its intact entry at slot {slot}")
                 })?;
             }
-            let state = self.code.judge_entry(now, slot);
+            let state = self.code.judge_entry(now, index);
             if let (true, EntryState::Intact(found, payload)) = (used, state) {
                 ensure(found != epoch || payload == committed.payload, || {
                     format!("replica {replica} has another payload at slot {slot}")
@@ -269,35 +303,35 @@ impl<'a> Start<'a> {
         if self.answer.is_err() {
             return ensure(stores == 0, || "a refused run made stores".into());
         }
-        let bound = (self.case.m * (3 * self.case.n - 2)) as u64;
+        let Shape { n, m, .. } = self.case.shape;
+        let bound = (m * (3 * n - 2)) as u64;
         ensure(stores <= bound, || format!("a run made {stores} stores"))
     }
 
     /// What comes next in a cluster, under the numbers of the case, as the model says.
     pub fn next(&self, now: &[u8]) -> Result<Next, Refusal> {
         let case = self.case;
-        next_store(now, case.n, case.m, case.leader, case.present)
+        next_store(now, case.shape, case.leader, case.present)
     }
 
     /// The store that the next step makes, if it makes one, from the bytes that the step leaves.
     /// The store is all that the step does.
     pub fn stepped(&self, now: &[u8]) -> Result<Option<Store>, String> {
         let &Case {
-            n,
-            m,
+            shape,
             leader,
             present,
             ..
         } = self.case;
         let mut after = now.to_vec();
         let mut expected = now.to_vec();
-        let made = self.code.step(&mut after, n, m, leader, present);
+        let made = self.code.step(&mut after, shape, leader, present);
         let store = match made {
             Ok(StepAnswer::Store {
                 replica,
                 slot,
                 kind,
-            }) => Some(store_in(&after, m, replica, slot, kind)),
+            }) => Some(store_in(&after, shape, replica, slot, kind)),
             _ => None,
         };
         if let Some(store) = &store {
@@ -307,14 +341,19 @@ impl<'a> Start<'a> {
         Ok(store)
     }
 
+    /// The index of a slot of every log within reach.
+    pub fn index(&self, slot: usize) -> u32 {
+        index_of(self.first, slot)
+    }
+
     fn replicas_within_reach(&self) -> impl Iterator<Item = usize> + '_ {
-        (1..=self.case.n).filter(|&replica| is_present(self.within_reach, replica))
+        (1..=self.case.shape.n).filter(|&replica| is_present(self.within_reach, replica))
     }
 
     fn log(&self, cluster: &[u8], replica: usize) -> Result<Log, String> {
-        let (n, m) = (self.case.n, self.case.m);
+        let shape = self.case.shape;
         self.code
-            .judge_image(image(cluster, m, replica), replica, n, m)
+            .judge_image(image(cluster, shape, replica), shape, replica)
             .map_err(|refusal| format!("replica {replica} is refused: {refusal:?}"))
     }
 }
@@ -325,12 +364,11 @@ pub fn planned(
     case: &Case,
     cluster: &[u8],
 ) -> (Result<Answer, Refusal>, Vec<u8>, Vec<ReplicaRow>) {
-    let mut bytes = vec![0xee; case.m.min(1000)];
-    let mut rows = vec![ReplicaRow::default(); case.n.min(1000)];
+    let mut bytes = vec![0xee; case.shape.m.min(1000)];
+    let mut rows = vec![ReplicaRow::default(); case.shape.n.min(1000)];
     let answer = code.plan(
         cluster,
-        case.n,
-        case.m,
+        case.shape,
         case.leader,
         case.present,
         &mut bytes,
@@ -341,19 +379,20 @@ pub fn planned(
 
 /// A run of budget 3 x n x m: how it ends, and its count.
 pub fn full_run(code: Code, case: &Case, cluster: &mut [u8]) -> Result<(RunEnd, u64), Refusal> {
-    let budget = (case.n as u64).saturating_mul(case.m as u64);
+    let Shape { n, m, .. } = case.shape;
+    let budget = (n as u64).saturating_mul(m as u64);
     let budget = budget.saturating_mul(3);
-    let answer = code.run(cluster, case.n, case.m, case.leader, case.present, budget)?;
+    let answer = code.run(cluster, case.shape, case.leader, case.present, budget)?;
     Ok((answer.end, answer.stores))
 }
 
 /// The store that a step has named, with the bytes that now stand there.
-fn store_in(after: &[u8], m: usize, replica: usize, slot: usize, kind: StoreKind) -> Store {
+fn store_in(after: &[u8], shape: Shape, replica: usize, slot: usize, kind: StoreKind) -> Store {
     let (at, length) = match kind {
-        StoreKind::Entry => (entry_offset(m, slot), ENTRY_LEN),
-        StoreKind::Record | StoreKind::Blank => (record_offset(slot), RECORD_LEN),
+        StoreKind::Entry => (entry_offset(shape, slot), ENTRY_LEN),
+        StoreKind::Record | StoreKind::Blank => (record_offset(shape, slot), RECORD_LEN),
     };
-    let offset = image_offset(m, replica) + at;
+    let offset = image_offset(shape, replica) + at;
     Store {
         replica,
         slot,
@@ -363,17 +402,17 @@ fn store_in(after: &[u8], m: usize, replica: usize, slot: usize, kind: StoreKind
     }
 }
 
-fn image(cluster: &[u8], m: usize, replica: usize) -> &[u8] {
-    let at = image_offset(m, replica);
-    &cluster[at..at + image_len(m)]
+fn image(cluster: &[u8], shape: Shape, replica: usize) -> &[u8] {
+    let at = image_offset(shape, replica);
+    &cluster[at..at + image_len(shape)]
 }
 
-fn record(cluster: &[u8], m: usize, replica: usize, slot: usize) -> &[u8] {
-    let at = record_offset(slot);
-    &image(cluster, m, replica)[at..at + RECORD_LEN]
+fn record(cluster: &[u8], shape: Shape, replica: usize, slot: usize) -> &[u8] {
+    let at = record_offset(shape, slot);
+    &image(cluster, shape, replica)[at..at + RECORD_LEN]
 }
 
-fn entry(cluster: &[u8], m: usize, replica: usize, slot: usize) -> &[u8] {
-    let at = entry_offset(m, slot);
-    &image(cluster, m, replica)[at..at + ENTRY_LEN]
+fn entry(cluster: &[u8], shape: Shape, replica: usize, slot: usize) -> &[u8] {
+    let at = entry_offset(shape, slot);
+    &image(cluster, shape, replica)[at..at + ENTRY_LEN]
 }

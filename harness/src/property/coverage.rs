@@ -13,6 +13,14 @@ pub struct Coverage {
     pub committed: u64,
     /// Those of clusters of four or six.
     pub even: u64,
+    /// Those of edition 2.
+    pub edition_2: u64,
+    /// Those that some log held which begins at another index than the leader's.
+    pub elsewhere: u64,
+    /// Plans that are refused because logs begin at different indexes.
+    pub first_differs: u64,
+    /// Plans of logs whose last slot has the last index that there is.
+    pub last_index: u64,
     /// Committed payloads whose copy on the leader was faulty, with a copy within reach.
     pub fetched: u64,
     /// The same with none.
@@ -41,6 +49,12 @@ impl fmt::Display for Coverage {
             f,
             "  committed: {}, of them in even clusters {}, fetched {}, out of reach {}, record lost {}",
             self.committed, self.even, self.fetched, self.out_of_reach, self.records_lost
+        )?;
+        writeln!(
+            f,
+            "  first indexes: {} committed in edition 2, {} held by a log that begins elsewhere; {} plans \
+             refused by 21, {} with the last index",
+            self.edition_2, self.elsewhere, self.first_differs, self.last_index
         )?;
         writeln!(
             f,

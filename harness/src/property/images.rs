@@ -6,13 +6,17 @@ use crate::generate::{noise_image, noise_report_input, ImageCase, Rng};
 use crate::model::{entry_offset, record_offset, Refusal, Verdict, ENTRY_LEN, RECORD_LEN};
 
 /// How often each refusal came, by its number; 0 counts what was accepted.
-pub type Refusals = [u64; 15];
+pub type Refusals = [u64; 22];
 
 #[derive(Clone, Debug, Default, PartialEq, Eq)]
 pub struct ImageCoverage {
     pub read: Refusals,
     pub append: Refusals,
     pub verdicts: [u64; 7],
+    /// What was read of each edition.
+    pub editions: [u64; 2],
+    /// Of these, logs that do not begin at 1.
+    pub later: u64,
 }
 
 /// One generated image.
@@ -35,32 +39,32 @@ fn check_read(
     case: &ImageCase,
     coverage: &mut ImageCoverage,
 ) -> Result<(), String> {
-    let ImageCase {
+    let &ImageCase {
+        shape,
         replica,
-        n,
-        m,
-        image,
+        ref image,
     } = case;
+    let m = shape.m;
     let lent = if rng.chance(5) {
         rng.below(9)
     } else {
-        *m.min(&100)
+        m.min(100)
     };
     let mut epochs = vec![99; lent];
     let mut verdicts = vec![99; lent];
-    let answer = code.read(image, *replica, *n, *m, &mut epochs, &mut verdicts);
+    let answer = code.read(image, shape, replica, &mut epochs, &mut verdicts);
     coverage.read[number(&answer)] += 1;
     let untouched = epochs.iter().all(|&epoch| epoch == 99) && verdicts.iter().all(|&v| v == 99);
     ensure(answer.is_ok() || untouched, || {
         "a refused read filled what it was lent".into()
     })?;
-    for slot in [0, 1, m / 2, *m, m.wrapping_add(1)] {
-        let has = code.has_payload(image, *replica, *n, *m, slot);
-        let part = code.payload(image, *replica, *n, *m, slot);
+    for slot in [0, 1, m / 2, m, m.wrapping_add(1)] {
+        let has = code.has_payload(image, shape, replica, slot);
+        let part = code.payload(image, shape, replica, slot);
         ensure(has == Ok(true) || part.is_empty(), || {
             format!("slot {slot} has no payload, yet one is given")
         })?;
-        let Ok(length) = answer else {
+        let Ok((length, _)) = answer else {
             let lent_only = answer == Err(Refusal::LentLength);
             ensure(lent_only || has.err() == answer.err(), || {
                 format!("{answer:?} but {has:?}")
@@ -71,10 +75,15 @@ fn check_read(
         let whole = used && (verdicts[slot - 1] == 1 || verdicts[slot - 1] == 2);
         ensure(has == Ok(whole), || format!("slot {slot}: {has:?}"))?;
     }
-    if answer.is_ok() {
+    if let Ok((_, first)) = answer {
         for &verdict in &verdicts {
             coverage.verdicts[usize::from(verdict)] += 1;
         }
+        coverage.editions[shape.edition - 1] += 1;
+        coverage.later += u64::from(first != 1);
+        ensure(shape.edition == 2 || first == 1, || {
+            format!("a log of edition 1 begins at {first}")
+        })?;
     }
     Ok(())
 }
@@ -85,30 +94,32 @@ fn check_append(
     case: &ImageCase,
     coverage: &mut ImageCoverage,
 ) -> Result<(), String> {
-    let ImageCase { replica, n, m, .. } = *case;
+    let ImageCase { shape, replica, .. } = *case;
     let mut image = case.image.clone();
     let epoch = *rng.pick(&[0, 1, 2, 3, u32::MAX, u32::MAX]);
     let length = *rng.pick(&[0, 1, 7, 199, 200, 200, 201]);
     let bytes = vec![rng.byte(); length];
-    let answer = code.append(&mut image, replica, n, m, epoch, &bytes);
+    let answer = code.append(&mut image, shape, replica, epoch, &bytes);
     coverage.append[number(&answer)] += 1;
     let Ok(slot) = answer else {
         return ensure(image == case.image, || "a refused append wrote".into());
     };
-    let mut epochs = vec![0; m];
-    let mut verdicts = vec![0; m];
-    let length = code.read(&image, replica, n, m, &mut epochs, &mut verdicts);
-    ensure(length == Ok(slot), || {
-        format!("length {length:?} after {slot}")
+    let mut epochs = vec![0; shape.m];
+    let mut verdicts = vec![0; shape.m];
+    let before = code.judge_image(&case.image, shape, replica);
+    let first = before.map_or(0, |log| log.first);
+    let read = code.read(&image, shape, replica, &mut epochs, &mut verdicts);
+    ensure(read == Ok((slot, first)), || {
+        format!("{read:?} after {slot} of a log from {first} on")
     })?;
     let intact = verdicts[slot - 1] == Verdict::Intact as u8 && epochs[slot - 1] == epoch;
     ensure(intact, || format!("slot {slot} is not intact after append"))?;
-    let same = code.payload(&image, replica, n, m, slot) == bytes;
+    let same = code.payload(&image, shape, replica, slot) == bytes;
     ensure(same, || format!("slot {slot} has another payload"))?;
     // All other bytes are as before.
     for (at, length) in [
-        (record_offset(slot), RECORD_LEN),
-        (entry_offset(m, slot), ENTRY_LEN),
+        (record_offset(shape, slot), RECORD_LEN),
+        (entry_offset(shape, slot), ENTRY_LEN),
     ] {
         let old = &case.image[at..at + length];
         image[at..at + length].copy_from_slice(old);

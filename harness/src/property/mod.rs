@@ -76,7 +76,7 @@ pub fn check_small(code: Code, small: &Small, numbers: Range<usize>) -> Result<C
             .map_err(|what| {
                 format!(
                     "small case {number} of {} replicas by {}: {what}",
-                    agreed.case.n, code.name
+                    agreed.case.shape.n, code.name
                 )
             })?;
     }

@@ -8,8 +8,12 @@ use super::coverage::Coverage;
 use super::ensure;
 use crate::code::Code;
 use crate::generate::damage::torn_entry;
-use crate::generate::{Case, Rng};
-use crate::model::{apply, Next, Refusal, ReplicaRow, RunEnd, StepAnswer, Store, StoreKind};
+use crate::generate::shapes::other_edition;
+use crate::generate::{some_first, Case, Rng};
+use crate::model::{
+    apply, fresh_image, image_len, image_offset, Next, Refusal, ReplicaRow, RunEnd, StepAnswer,
+    Store, StoreKind,
+};
 
 /// Plays a list of calls and checks every conclusion after each of them.
 pub fn play(
@@ -58,9 +62,7 @@ fn step_call(start: &Start, now: &mut [u8]) -> Result<(), String> {
     if let Ok(Next::Store(store)) = &next {
         apply(&mut expected, store);
     }
-    let answer = start
-        .code
-        .step(now, case.n, case.m, case.leader, case.present);
+    let answer = start.code.step(now, case.shape, case.leader, case.present);
     let named = next.map(|next| match next {
         Next::Done => StepAnswer::Done,
         Next::Waiting(slot) => StepAnswer::Waiting(slot),
@@ -91,7 +93,7 @@ fn run_call(
         _ => rng.below(start.stores as usize + 2) as u64,
     };
     let mut expected = now.to_vec();
-    let answer = match code.run(now, case.n, case.m, case.leader, case.present, budget) {
+    let answer = match code.run(now, case.shape, case.leader, case.present, budget) {
         Ok(answer) => answer,
         Err(refusal) => {
             return ensure(Err(refusal) == start.answer, || {
@@ -101,7 +103,7 @@ fn run_call(
     };
     start.check_bound(answer.stores)?;
     for _ in 0..answer.stores {
-        let made = code.step(&mut expected, case.n, case.m, case.leader, case.present);
+        let made = code.step(&mut expected, case.shape, case.leader, case.present);
         ensure(matches!(made, Ok(StepAnswer::Store { .. })), || {
             format!("the run counts {} stores", answer.stores)
         })?;
@@ -126,13 +128,12 @@ fn cut_call(
     coverage: &mut Coverage,
 ) -> Result<(), String> {
     let &Case {
-        n,
-        m,
+        shape,
         leader,
         present,
         ..
     } = start.case;
-    if start.code.run(now, n, m, leader, present, stores).is_err() {
+    if start.code.run(now, shape, leader, present, stores).is_err() {
         return Ok(());
     }
     let Some(store) = start.stepped(now)? else {
@@ -144,13 +145,13 @@ fn cut_call(
             coverage.cut += 1;
             apply(now, &store);
         }
-        _ => cut_store(rng, now, &store, coverage),
+        _ => cut_store(rng, start, now, &store, coverage),
     }
     Ok(())
 }
 
 /// The power fails during a store: a record is old or new, an entry may be torn.
-fn cut_store(rng: &mut Rng, now: &mut [u8], store: &Store, coverage: &mut Coverage) {
+fn cut_store(rng: &mut Rng, start: &Start, now: &mut [u8], store: &Store, coverage: &mut Coverage) {
     if store.kind != StoreKind::Entry {
         coverage.cut += 1;
         if rng.chance(50) {
@@ -160,7 +161,7 @@ fn cut_store(rng: &mut Rng, now: &mut [u8], store: &Store, coverage: &mut Covera
     }
     coverage.torn += 1;
     let part = &mut now[store.offset..store.offset + store.bytes.len()];
-    let torn = torn_entry(rng, part, &store.bytes, store.slot);
+    let torn = torn_entry(rng, part, &store.bytes, start.index(store.slot));
     part.copy_from_slice(&torn);
 }
 
@@ -171,7 +172,7 @@ fn refused_call(rng: &mut Rng, start: &Start, now: &[u8]) -> Result<(), String> 
         ..*start.case
     };
     let number = match start.answer {
-        Ok(_) => spoil_call(rng, &mut case),
+        Ok(_) => spoil_call(rng, start, &mut case),
         // One more mistake could undo the first one, so it is left as it is.
         Err(first) => first.number(),
     };
@@ -184,14 +185,15 @@ fn refused_call(rng: &mut Rng, start: &Start, now: &[u8]) -> Result<(), String> 
 }
 
 /// Makes one thing wrong and answers the number it is refused by; 13 is left to the caller.
-fn spoil_call(rng: &mut Rng, case: &mut Case) -> u8 {
-    match rng.below(9) {
+fn spoil_call(rng: &mut Rng, start: &Start, case: &mut Case) -> u8 {
+    let shape = case.shape;
+    match rng.below(11) {
         0 => {
-            case.m = *rng.pick(&[0, 65, 1000, usize::MAX]);
+            case.shape.m = *rng.pick(&[0, 65, 1000, usize::MAX]);
             1
         }
         1 => {
-            case.n = *rng.pick(&[0, 1, 2, 8, 9, usize::MAX]);
+            case.shape.n = *rng.pick(&[0, 1, 2, 8, 9, usize::MAX]);
             2
         }
         2 => {
@@ -205,7 +207,7 @@ fn spoil_call(rng: &mut Rng, case: &mut Case) -> u8 {
         }
         4 => {
             // Numbers that would be right for a longer cluster.
-            case.m = if case.m == 64 { 63 } else { 64 };
+            case.shape.m = if shape.m == 64 { 63 } else { 64 };
             3
         }
         5 => {
@@ -221,8 +223,35 @@ fn spoil_call(rng: &mut Rng, case: &mut Case) -> u8 {
             case.present &= !(1 << (leader - 1));
             12
         }
+        8 => {
+            case.shape.edition = other_edition(rng, shape.edition);
+            // The other edition's images have another length.
+            if case.shape.edition == 3 - shape.edition {
+                3
+            } else {
+                2
+            }
+        }
+        9 if shape.edition == 2 => {
+            begin_elsewhere(rng, start, case);
+            21
+        }
         _ => 13,
     }
+}
+
+/// Gives a replica other than the leader a fresh image that begins elsewhere, and has it present.
+fn begin_elsewhere(rng: &mut Rng, start: &Start, case: &mut Case) {
+    let shape = case.shape;
+    let replica = 1 + (case.leader + rng.below(shape.n - 1)) % shape.n;
+    let mut first = start.first;
+    while first == start.first {
+        first = some_first(rng, shape);
+    }
+    let at = image_offset(shape, replica);
+    let image = &mut case.cluster[at..at + image_len(shape)];
+    fresh_image(image, shape, replica, first).expect("the numbers are accepted");
+    case.present |= 1 << (replica - 1);
 }
 
 /// Makes one of the three calls and answers its refusal.
@@ -233,8 +262,7 @@ fn refusal_of(
     lent_wrong: bool,
 ) -> Result<Refusal, String> {
     let Case {
-        n,
-        m,
+        shape,
         leader,
         present,
         ..
@@ -243,9 +271,9 @@ fn refusal_of(
     let which = if lent_wrong { 0 } else { rng.below(3) };
     let refusal = match which {
         0 => refused_plan(rng, code, case, lent_wrong)?,
-        1 => code.step(cluster, n, m, leader, present).err(),
+        1 => code.step(cluster, shape, leader, present).err(),
         _ => code
-            .run(cluster, n, m, leader, present, rng.draw() >> rng.below(64))
+            .run(cluster, shape, leader, present, rng.draw() >> rng.below(64))
             .err(),
     };
     refusal.ok_or_else(|| "a wrong call is not refused".into())
@@ -263,7 +291,7 @@ fn refused_plan(
         length: 9,
         last_epoch: 9,
     };
-    let (mut slots, mut replicas) = (case.m.min(100), case.n.min(100));
+    let (mut slots, mut replicas) = (case.shape.m.min(100), case.shape.n.min(100));
     if lent_wrong {
         if rng.chance(50) {
             slots = if rng.chance(50) { slots + 1 } else { 0 };
@@ -275,8 +303,7 @@ fn refused_plan(
     let mut rows = vec![row; replicas];
     let answer = code.plan(
         &case.cluster,
-        case.n,
-        case.m,
+        case.shape,
         case.leader,
         case.present,
         &mut bytes,

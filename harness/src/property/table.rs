@@ -3,11 +3,12 @@
 use super::ensure;
 use crate::code::Code;
 use crate::generate::Cluster;
-use crate::model::RunEnd;
+use crate::model::{RunEnd, Shape};
 use crate::progress;
 
 const REPLICAS: usize = 3;
 const SLOTS: usize = 4;
+const SHAPE: Shape = Shape::edition_1(REPLICAS, SLOTS);
 /// How many sets of damaged entries there are.
 pub const SETS: u32 = 1 << (REPLICAS * SLOTS);
 
@@ -50,7 +51,7 @@ pub fn table_of(code: Code, damage: impl Fn(&mut Cluster, usize, usize)) -> Resu
         let mut cluster = start.clone();
         let budget = (3 * REPLICAS * SLOTS) as u64;
         let answer = code
-            .run(&mut cluster.bytes, REPLICAS, SLOTS, 1, 7, budget)
+            .run(&mut cluster.bytes, SHAPE, 1, 7, budget)
             .map_err(|refusal| format!("set {set:#x} is refused: {refusal:?}"))?;
         match answer.end {
             RunEnd::Done if cluster == intact => table.recovered += 1,

@@ -28,7 +28,8 @@ fn check_torn(
 ) -> Result<(), String> {
     let old = &now[store.offset..store.offset + ENTRY_LEN];
     for bytes in torn_kinds(old, &store.bytes) {
-        if start.code.judge_entry(&bytes, store.slot) != EntryState::NotIntact {
+        let index = start.index(store.slot);
+        if start.code.judge_entry(&bytes, index) != EntryState::NotIntact {
             continue;
         }
         let mut torn = now.to_vec();

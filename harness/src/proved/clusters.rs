@@ -2,7 +2,7 @@
 //! changed.
 
 use super::exported;
-use crate::model;
+use crate::model::{self, Shape};
 
 pub use exported::RawRow as ReplicaRow;
 
@@ -43,8 +43,7 @@ impl From<u8> for ReplicaRow {
 /// lowest waiting slot.
 pub fn plan(
     cluster: &[u8],
-    n: usize,
-    m: usize,
+    shape: Shape,
     leader: usize,
     present: u32,
     plan: &mut [u8],
@@ -55,10 +54,11 @@ pub fn plan(
     let (cluster, len) = (cluster.as_ptr(), cluster.len());
     let (plan, plan_len) = (plan.as_mut_ptr(), plan.len());
     let (rows, rows_len) = (rows.as_mut_ptr(), rows.len());
+    let shape = shape.into();
     // SAFETY: the slices and the numbers are lent for the call, and none overlaps another.
     unsafe {
         exported::rope_plan(
-            cluster, len, n, m, leader, present, plan, plan_len, rows, rows_len, status, number,
+            cluster, len, shape, leader, present, plan, plan_len, rows, rows_len, status, number,
         )
     }
 }
@@ -67,8 +67,7 @@ pub fn plan(
 /// and kind of the store that it made.
 pub fn step(
     cluster: &mut [u8],
-    n: usize,
-    m: usize,
+    shape: Shape,
     leader: usize,
     present: u32,
     status: &mut u8,
@@ -80,7 +79,15 @@ pub fn step(
     // SAFETY: the slice and the numbers are lent for the call, and none overlaps another.
     unsafe {
         exported::rope_step(
-            cluster, len, n, m, leader, present, status, replica, slot, kind,
+            cluster,
+            len,
+            shape.into(),
+            leader,
+            present,
+            status,
+            replica,
+            slot,
+            kind,
         )
     }
 }
@@ -89,8 +96,7 @@ pub fn step(
 /// number of stores that it made.
 pub fn run(
     cluster: &mut [u8],
-    n: usize,
-    m: usize,
+    shape: Shape,
     leader: usize,
     present: u32,
     budget: u64,
@@ -102,7 +108,15 @@ pub fn run(
     // SAFETY: the slice and the numbers are lent for the call, and none overlaps another.
     unsafe {
         exported::rope_run(
-            cluster, len, n, m, leader, present, budget, status, stores, slot,
+            cluster,
+            len,
+            shape.into(),
+            leader,
+            present,
+            budget,
+            status,
+            stores,
+            slot,
         )
     }
 }

@@ -2,9 +2,9 @@
 
 use super::Side;
 use crate::model::{self, Answer, EntryState, RecordState, Refusal, RunAnswer, RunEnd};
-use crate::model::{StepAnswer, ENTRY_LEN, HEADER_LEN, MAX_PAYLOAD, RECORD_LEN};
+use crate::model::{Shape, StepAnswer, ENTRY_LEN, MAX_PAYLOAD, RECORD_LEN};
 use crate::proved::clusters::ReplicaRow;
-use crate::proved::{Column, Entry, Record, Written};
+use crate::proved::{Column, Entry, Header, Record, Written};
 
 /// The widest column that is read.
 const WIDEST: usize = 19;
@@ -14,7 +14,7 @@ pub const MODEL: Side = Side {
     write_number,
     read_column,
     write_header,
-    is_header,
+    judge_header,
     write_record,
     write_blank_record,
     judge_record,
@@ -62,17 +62,30 @@ fn read_column(column: &[u8], value: &mut u64) -> Column {
     }
 }
 
-/// The writer's header. The model never meets a number too wide for its column, and would stop.
-fn header_of(replica: usize, n: usize, m: usize) -> [u8; HEADER_LEN] {
-    if replica.max(n).max(m) < 1000 {
-        return model::write_header(replica, n, m);
+/// The model never meets a number too wide for its column, and would stop.
+fn fits(shape: Shape, replica: usize) -> bool {
+    let Shape { n, m, edition } = shape;
+    edition.max(replica).max(n).max(m) < 1000
+}
+
+/// The writer's header.
+fn header_of(shape: Shape, replica: usize, first: u32) -> Vec<u8> {
+    if fits(shape, replica) {
+        return model::write_header(shape, replica, first);
     }
-    let mut header = model::write_header(0, 0, 0);
+    let Shape { n, m, edition } = shape;
+    // Edition 2 alone has the column of the first index.
+    let (narrow, end) = match edition {
+        2 => (Shape::edition_2(0, 0), 27),
+        _ => (Shape::edition_1(0, 0), 16),
+    };
+    let mut header = model::write_header(narrow, 0, first);
+    write_number(&mut header[4..7], edition as u64);
     write_number(&mut header[7..10], replica as u64);
     write_number(&mut header[10..13], n as u64);
     write_number(&mut header[13..16], m as u64);
-    let sum = model::checksum(&header[..16]);
-    write_number(&mut header[16..27], u64::from(sum));
+    let sum = model::checksum(&header[..end]);
+    write_number(&mut header[end..end + 11], u64::from(sum));
     header
 }
 
@@ -85,20 +98,37 @@ fn write(lent: &mut [u8], bytes: &[u8]) -> Written {
     Written::Written
 }
 
-fn write_header(header: &mut [u8], replica: usize, n: usize, m: usize) -> Written {
-    write(header, &header_of(replica, n, m))
+fn write_header(header: &mut [u8], shape: Shape, replica: usize, first: u32) -> Written {
+    write(header, &header_of(shape, replica, first))
 }
 
-fn is_header(header: &[u8], replica: usize, n: usize, m: usize) -> bool {
-    if replica.max(n).max(m) < 1000 {
-        model::header_is_good(header, replica, n, m)
+fn judge_header(header: &[u8], shape: Shape, replica: usize, first: &mut u32) -> Header {
+    let found = if fits(shape, replica) {
+        model::judge_header(header, shape, replica)
     } else {
-        header == header_of(replica, n, m)
+        first_in(header, shape).filter(|&found| header == header_of(shape, replica, found))
+    };
+    match found {
+        Some(found) => {
+            *first = found;
+            Header::Good
+        }
+        None => Header::Other,
     }
 }
 
+/// The one first index that a header can have, if a log may begin there. Only edition 2 has a column for
+/// it, so that of another edition only the bytes count.
+fn first_in(header: &[u8], shape: Shape) -> Option<u32> {
+    if shape.edition != 2 {
+        return Some(1);
+    }
+    let found = model::read_column(header.get(16..27)?)?;
+    shape.may_begin_at(found).then_some(found as u32)
+}
+
 fn write_record(record: &mut [u8], epoch: u32, index: u32) -> Written {
-    write(record, &model::write_record(epoch, index as usize))
+    write(record, &model::write_record(epoch, index))
 }
 
 fn write_blank_record(record: &mut [u8]) -> Written {
@@ -109,7 +139,7 @@ fn judge_record(record: &[u8], index: u32, epoch: &mut u32) -> Record {
     if record.len() != RECORD_LEN {
         return Record::WrongLength;
     }
-    match model::judge_record(record, index as usize) {
+    match model::judge_record(record, index) {
         RecordState::Good(found) => {
             *epoch = found;
             Record::Good
@@ -126,7 +156,7 @@ fn write_entry(entry: &mut [u8], epoch: u32, index: u32, payload: &[u8]) -> Writ
     if payload.len() > MAX_PAYLOAD {
         return Written::PayloadTooLong;
     }
-    write(entry, &model::write_entry(epoch, index as usize, payload))
+    write(entry, &model::write_entry(epoch, index, payload))
 }
 
 fn write_fresh_entry(entry: &mut [u8]) -> Written {
@@ -137,7 +167,7 @@ fn judge_entry(entry: &[u8], index: u32, epoch: &mut u32, size: &mut usize) -> E
     if entry.len() != ENTRY_LEN {
         return Entry::WrongLength;
     }
-    match model::judge_entry(entry, index as usize) {
+    match model::judge_entry(entry, index) {
         EntryState::Intact(found, payload) => {
             *epoch = found;
             *size = payload.len();
@@ -158,53 +188,51 @@ fn answer<T>(answer: Result<T, Refusal>, hand_out: impl FnOnce(T)) -> u8 {
     }
 }
 
-fn format(image: &mut [u8], replica: usize, n: usize, m: usize) -> u8 {
-    answer(model::fresh_image(image, replica, n, m), |()| ())
+fn format(image: &mut [u8], shape: Shape, replica: usize, first: u32) -> u8 {
+    answer(model::fresh_image(image, shape, replica, first), |()| ())
 }
 
 fn append(
     image: &mut [u8],
+    shape: Shape,
     replica: usize,
-    n: usize,
-    m: usize,
     epoch: u32,
     payload: &[u8],
     slot: &mut usize,
 ) -> u8 {
-    let appended = model::append(image, replica, n, m, epoch, payload);
+    let appended = model::append(image, shape, replica, epoch, payload);
     answer(appended, |found| *slot = found)
 }
 
 fn read(
     image: &[u8],
+    shape: Shape,
     replica: usize,
-    n: usize,
-    m: usize,
     epochs: &mut [u32],
     verdicts: &mut [u8],
     used: &mut usize,
+    first: &mut u32,
 ) -> u8 {
-    let length = model::read(image, replica, n, m, epochs, verdicts);
-    answer(length, |found| *used = found)
+    let read = model::read(image, shape, replica, epochs, verdicts);
+    answer(read, |found| (*used, *first) = found)
 }
 
-fn has_payload(image: &[u8], replica: usize, n: usize, m: usize, slot: usize, has: &mut u8) -> u8 {
-    let found = model::has_payload(image, replica, n, m, slot);
+fn has_payload(image: &[u8], shape: Shape, replica: usize, slot: usize, has: &mut u8) -> u8 {
+    let found = model::has_payload(image, shape, replica, slot);
     answer(found, |found| *has = u8::from(found))
 }
 
 fn payload(
     image: &[u8],
+    shape: Shape,
     replica: usize,
-    n: usize,
-    m: usize,
     slot: usize,
     at: &mut usize,
     size: &mut usize,
 ) {
-    let part = model::payload(image, replica, n, m, slot);
+    let part = model::payload(image, shape, replica, slot);
     // The empty part of a slot without a payload is handed out at 0.
-    *at = match model::has_payload(image, replica, n, m, slot) {
+    *at = match model::has_payload(image, shape, replica, slot) {
         Ok(true) => part.as_ptr() as usize - image.as_ptr() as usize,
         _ => 0,
     };
@@ -213,8 +241,7 @@ fn payload(
 
 fn plan(
     cluster: &[u8],
-    n: usize,
-    m: usize,
+    shape: Shape,
     leader: usize,
     present: u32,
     plan: &mut [u8],
@@ -223,7 +250,7 @@ fn plan(
     number: &mut usize,
 ) -> u8 {
     let mut table: Vec<model::ReplicaRow> = rows.iter().map(|&row| row.into()).collect();
-    let planned = model::plan(cluster, n, m, leader, present, plan, &mut table);
+    let planned = model::plan(cluster, shape, leader, present, plan, &mut table);
     for (row, filled) in rows.iter_mut().zip(table) {
         *row = filled.into();
     }
@@ -237,8 +264,7 @@ fn plan(
 
 fn step(
     cluster: &mut [u8],
-    n: usize,
-    m: usize,
+    shape: Shape,
     leader: usize,
     present: u32,
     status: &mut u8,
@@ -246,7 +272,7 @@ fn step(
     slot: &mut usize,
     kind: &mut u8,
 ) -> u8 {
-    let stepped = model::step(cluster, n, m, leader, present);
+    let stepped = model::step(cluster, shape, leader, present);
     answer(stepped, |found| match found {
         StepAnswer::Done => *status = 0,
         StepAnswer::Waiting(waiting) => (*status, *slot) = (1, waiting),
@@ -260,8 +286,7 @@ fn step(
 
 fn run(
     cluster: &mut [u8],
-    n: usize,
-    m: usize,
+    shape: Shape,
     leader: usize,
     present: u32,
     budget: u64,
@@ -269,7 +294,7 @@ fn run(
     stores: &mut u64,
     slot: &mut usize,
 ) -> u8 {
-    let ran = model::run(cluster, n, m, leader, present, budget);
+    let ran = model::run(cluster, shape, leader, present, budget);
     answer(ran, |RunAnswer { end, stores: made }| match end {
         RunEnd::Done => (*status, *stores) = (0, made),
         RunEnd::Waiting(waiting) => (*status, *stores, *slot) = (1, made, waiting),

@@ -2,6 +2,7 @@ use Rattle.demand3.proofs.UncutLaws.{uncut}
 use Rattle.demand3.proofs.RunLaws.{runs}
 use Rattle.demand3.proofs.PartA.{part-a}
 use Rattle.demand3.proofs.PartB.{part-b, part-b-whole}
+use Rattle.image.proofs.ClusterLaws.{with-one}
 use Rattle.demand3.proofs.BeforeLaws.{damaged-cluster}
 use Rattle.demand3.proofs.demand_three.Statement.{statement}
 use Rattle.demand3.proofs.demand_three.Tie as tie
@@ -11,9 +12,10 @@ returns c = record {
   uncut = uncut;
   runs = runs;
   always = λ N qs b₀ b list. part-a N list;
-  committed = λ N qs b₀ b H k e p s list. part-b N H k e p s list;
+  committed = λ N qs b₀ b H i e p s list. part-b N H i e p s list;
   damaged = damaged-cluster;
   demand = part-b-whole;
+  editionOne = λ N firsts b c e f. with-one (N .shape) firsts b c e f;
 }
 
 pub demand-three-spec : {M : Type 1} → statement M

@@ -13,7 +13,7 @@ use Rattle.protocol.specs.StepBytes.{stepsBytes}
 use Rattle.protocol.specs.CallResult.{isSpent}
 use Rattle.example.specs.Undamaged.{payloadA, noise, undamagedFour}
 use Rattle.example.specs.Four.{four, evenCluster, evenTorn}
-use Rattle.example.proofs.ComputedLaws.{computed}
+use Rattle.example.proofs.ComputedLaws.{computed, even-computed}
 use Rattle.demand3.specs.Interrupted.{torn, interrupted}
 use Rattle.demand3.specs.CallList.{CallList, finished, made}
 use Rattle.demand3.specs.Claim.{readable}
@@ -26,30 +26,30 @@ use Rattle.demand3.proofs.even_exhibit_claim.Tie as tie
 played : CallList four (record { numbers = four; call = run 12 } ∷ []) evenCluster evenTorn
 unfolding evenTorn budgetOf refusalOf stepsBytes settingOf four
 played =
-    made (run 12) (computed .go-even)
-    (interrupted 0 (storeEntry 0 0 2) (omega arith) (computed .next-even) (torn {c = 0} {k = 0} noise (unfold noise in length-replicate {A = ℕ} 240 9) (unfold index in rw (computed .even-begins) (computed .noise-broken))))
+    made (run 12) (even-computed .go-even)
+    (interrupted 0 (storeEntry 0 0 2) (omega arith) (even-computed .next-even) (torn {c = 0} {k = 0} noise (unfold noise in length-replicate {A = ℕ} 240 9) (unfold index in rw (even-computed .even-begins) (computed .noise-broken))))
     finished
 
 -- all four are present and readable
 readable-four : (c : ℕ) → c < 4 → readable four evenCluster c ≡ true
 unfolding readable has four
-readable-four zero h = rw (computed .even-read-0)
-readable-four (suc zero) h = rw (computed .even-read-1)
-readable-four (suc (suc zero)) h = rw (computed .even-read-2)
-readable-four (suc (suc (suc zero))) h = rw (computed .even-read-3)
+readable-four zero h = rw (even-computed .even-read-0)
+readable-four (suc zero) h = rw (even-computed .even-read-1)
+readable-four (suc (suc zero)) h = rw (even-computed .even-read-2)
+readable-four (suc (suc (suc zero))) h = rw (even-computed .even-read-3)
 readable-four (suc (suc (suc (suc c)))) h = absurd (omega arith)
 
 returns : tie.Need-returns
 unfolding four settingOf
 returns c =
-    let part = part-b-whole four _ undamagedFour noFlights evenCluster evenTorn 0 2 payloadA damaged-four played in
+    let part = part-b-whole four _ undamagedFour noFlights evenCluster evenTorn 1 2 payloadA damaged-four played in
     record {
-      accepted = computed .go-even;
+      accepted = even-computed .go-even;
       damaged = damaged-four;
       played = played;
-      isReady = computed .even-ready;
-      lastRun = computed .even-run;
-      mended = λ c h. part .mended 1 12 (computed .even-ready) (unfold isSpent in rw (computed .even-run)) c h (readable-four c h);
+      isReady = even-computed .even-ready;
+      lastRun = even-computed .even-run;
+      mended = λ c h. part .mended 1 12 (even-computed .even-ready) (unfold isSpent in rw (even-computed .even-run)) c h (readable-four c h);
     }
 
 pub even-exhibit-claim-spec : {M : Type 1} → statement M

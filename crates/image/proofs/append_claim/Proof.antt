@@ -1,7 +1,9 @@
 -- The claim's parts are laws.
 use lib.ListN.{length}
 use Rattle.image.specs.Append.{appended}
-use Rattle.image.proofs.FreshLaws.{length-fresh-image, fresh-readable, fresh-length, fresh-blank, fresh-verdict}
+use Rattle.image.specs.Image.{imageSize}
+use Rattle.image.proofs.CallLaws.{formatted-first}
+use Rattle.image.proofs.FreshLaws.{length-fresh-image, fresh-first, fresh-readable, fresh-length, fresh-blank, fresh-verdict}
 use Rattle.image.proofs.AcceptLaws.{accepts-elim, last-epoch-again}
 use Rattle.image.proofs.AppendLaws.{appended-stored, one-more}
 use Rattle.image.proofs.AppendListLaws.{several-read}
@@ -10,12 +12,13 @@ use Rattle.image.proofs.append_claim.Tie as tie
 
 returns : tie.Need-returns
 returns z = record {
-  fresh = λ Z c h. record {
-    size = length-fresh-image Z c;
-    readable = fresh-readable Z c h;
-    none = fresh-length Z c;
-    blanks = λ k x. fresh-blank Z c k;
-    verdicts = fresh-verdict Z c;
+  fresh = λ Z c first h. record {
+    size = length-fresh-image Z c first;
+    readable = fresh-readable Z c first h;
+    begins = fresh-first Z c first (formatted-first Z c first (imageSize Z c) h);
+    none = fresh-length Z c first;
+    blanks = λ k x. fresh-blank Z c first k;
+    verdicts = fresh-verdict Z c first;
   };
   one = λ Z c b e p high ok.
       one-more Z c b e p (appended Z c b e p) high (accepts-elim Z c b e (length p) ok) (appended-stored Z c b e p ok);

@@ -1,28 +1,40 @@
 -- The claim's parts are laws.
-use Prim.Native.Nat.{ℕ, _+_, _*_}
-use mathlib.Core.Path.{_≡_, ap, _∙_}
+use Prim.Native.Nat.{ℕ}
+use mathlib.Core.Path.{_≡_, _∙_}
 use native.Mathlib.Omega.{arith}
 use Rattle.record.specs.declared.Shape.{Shape}
-use Rattle.record.proofs.LayoutLaws.{header-size-is, length-header, length-record, length-blank, length-entry, length-fresh}
-use Rattle.image.specs.Image.{imageSize}
-use Rattle.image.proofs.DecodeLaws.{size-is}
+use Rattle.slices.specs.Parts.{part}
+use Rattle.record.specs.Layout.{headerSize}
+use Rattle.record.proofs.HeaderLaws.{read-first-one}
+use Rattle.record.proofs.LayoutLaws.{header-size-one, header-size-two, gives-other, gives-two, length-header, length-record, length-blank, length-entry, length-fresh}
+use Rattle.image.specs.Image.{index, firstIn}
+use Rattle.image.proofs.DecodeLaws.{size-is, record-there, entry-there}
 use Rattle.image.proofs.ClusterLaws.{image-at}
 use Rattle.image.proofs.EncodeLaws.{encode-decode-image, encode-decode}
 use Rattle.image.proofs.layout_claim.Statement.{statement}
 use Rattle.image.proofs.layout_claim.Tie as tie
 
-size : (Z : Shape) (c : ℕ) → imageSize Z c ≡ 28 + 274 * Z .m
-size Z c = omega (arith, size-is Z c, header-size-is Z)
+one : (Z : Shape) → Z .edition ≡ 1 → headerSize Z ≡ 28
+one Z e = header-size-one Z (gives-other Z (λ two. omega arith))
+
+two : (Z : Shape) → Z .edition ≡ 2 → headerSize Z ≡ 39
+two Z e = header-size-two Z (gives-two Z e)
 
 returns : tie.Need-returns
+unfolding index
 returns z = record {
-  header-size = λ Z c. length-header Z c ∙ header-size-is Z;
+  header-size = λ Z c first e. length-header Z c first ∙ one Z e;
+  header-size-two = λ Z c first e. length-header Z c first ∙ two Z e;
   record-size = length-record;
   blank-size = length-blank;
   entry-size = length-entry;
   fresh-size = length-fresh;
-  image-size = size;
-  cluster-size = λ Z. image-at Z (Z .n) ∙ ap (λ (x : ℕ). x * Z .n) (size Z 1);
+  image-size = λ Z c e. omega (arith, size-is Z c, one Z e);
+  image-size-two = λ Z c e. omega (arith, size-is Z c, two Z e);
+  cluster-size = λ Z. image-at Z (Z .n);
+  index-record = record-there;
+  index-entry = entry-there;
+  first-one = λ Z c b e. unfold firstIn in read-first-one Z c (part b 0 (headerSize Z)) (gives-other Z (λ two. omega arith));
   image-again = encode-decode-image;
   cluster-again = encode-decode;
 }

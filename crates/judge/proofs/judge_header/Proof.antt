@@ -1,36 +1,40 @@
--- The writer's header gives the first index, and other bytes give none.
-use Prim.Native.Nat.{ℕ}
-use mathlib.Core.Path.{_≡_, sym, ap, _∙_}
-use mathlib.Core.Bool.{true, false}
+-- Only the number in its column can be the first index of a header, so `is_header` is asked for that one.
+use mathlib.Core.Path.{sym, _∙_}
 use native.Mathlib.Omega.{arith}
+use Rattle.record.proofs.HeaderJudgeLaws.{answer-size, answer-proper, answer-improper, header-fits}
 use borrow.Author.Needs.{needs}
-use Rattle.slices.specs.Parts.{Bytes}
-use Rattle.slices.specs.Same.{same}
-use Rattle.record.specs.declared.Shape.{Shape}
-use Rattle.record.specs.declared.HeaderState.the-variants.{Proper, Improper}
-use Rattle.record.specs.Layout.{headerBytes}
-use Rattle.record.specs.Meaning.{firstIndex, readHeader}
-use Rattle.record.specs.Judged.{headerAnswer}
 use Rattle.judge.proofs.judge_header.Statement.{statement}
 use Rattle.judge.proofs.judge_header.Tie as tie
 
-module _ (Z : Shape) (c : ℕ) (b : Bytes) where
-  answer-proper : (first : ℕ) → first ≡ 1 → same b (headerBytes Z c) ≡ true → Proper first ≡ headerAnswer (readHeader Z c b)
-  unfolding headerAnswer firstIndex readHeader
-  answer-proper first e h = rw h (ap Proper e)
+header-size-requires : tie.Need-header-size-requires
+header-size-requires c κs = search needs
 
-  answer-improper : same b (headerBytes Z c) ≡ false → Improper ≡ headerAnswer (readHeader Z c b)
-  unfolding headerAnswer readHeader
-  answer-improper h = rw h
+returns : tie.Need-returns
+returns c = answer-size _ _ _ (λ e. omega (arith, e, c .if1 .taken))
+
+first-in-requires : tie.Need-first-in-requires
+first-in-requires c κs = search needs
 
 is-header-requires : tie.Need-is-header-requires
 is-header-requires c κs = search needs
 
-returns : tie.Need-returns
-returns c = answer-proper _ _ _ _ (omega arith) (sym (c .before .is-header .ensures) ∙ c .if1 .taken)
+cast-t9 : tie.Need-cast-t9
+cast-t9 c = omega (arith, header-fits _ _ _ _ (sym (c .before .is-header .ensures) ∙ c .if2 .taken))
 
 returns-2 : tie.Need-returns-2
-returns-2 c = answer-improper _ _ _ (sym (c .before .is-header .ensures) ∙ c .if1 .left)
+returns-2 c = answer-proper _ _ _ (c .before .before .first-in .ensures) (omega arith) (sym (c .before .is-header .ensures) ∙ c .if2 .taken)
+
+returns-3 : tie.Need-returns-3
+returns-3 c = answer-improper _ _ _ (c .before .before .first-in .ensures) (sym (c .before .is-header .ensures) ∙ c .if2 .left)
 
 pub judge-header-spec : {M : Type 1} → statement M
-judge-header-spec = tie.close (tie.spec is-header-requires returns returns-2)
+judge-header-spec =
+    tie.close
+    (tie.spec
+    header-size-requires
+    returns
+    first-in-requires
+    is-header-requires
+    cast-t9
+    returns-2
+    returns-3)

@@ -1,5 +1,5 @@
 -- The entries before it, behind all records.
-use Rattle.record.proofs.LayoutLaws.{header-size-is}
+use Rattle.record.proofs.LayoutLaws.{header-size-high}
 use Rattle.image.proofs.DecodeLaws.{entry-begins}
 use native.Mathlib.Omega.{arith}
 use borrow.Author.Needs.{needs}
@@ -13,13 +13,13 @@ mul-result : tie.Need-mul-result
 mul-result c = search needs
 
 add-result : tie.Need-add-result
-add-result c = omega (arith, header-size-is (c .before .before .args .shape))
+add-result c = omega (arith, header-size-high (c .before .before .args .shape))
 
 mul-result-2 : tie.Need-mul-result-2
 mul-result-2 c = search needs
 
 add-result-2 : tie.Need-add-result-2
-add-result-2 c = omega (arith, header-size-is (c .before .before .args .shape))
+add-result-2 c = omega (arith, header-size-high (c .before .before .args .shape))
 
 returns : tie.Need-returns
 returns c = omega (arith, entry-begins (c .before .before .args .shape) (c .before .before .args .k))

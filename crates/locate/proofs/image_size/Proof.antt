@@ -1,5 +1,5 @@
 -- The layout, with the constants in their places.
-use Rattle.record.proofs.LayoutLaws.{header-size-is}
+use Rattle.record.proofs.LayoutLaws.{header-size-high}
 use Rattle.image.proofs.DecodeLaws.{size-is}
 use native.Mathlib.Omega.{arith}
 use borrow.Author.Needs.{needs}
@@ -16,7 +16,7 @@ mul-result : tie.Need-mul-result
 mul-result c = search needs
 
 add-result-2 : tie.Need-add-result-2
-add-result-2 c = omega (arith, header-size-is (c .before .before .args .shape))
+add-result-2 c = omega (arith, header-size-high (c .before .before .args .shape))
 
 returns : tie.Need-returns
 returns c = omega (arith, size-is (c .before .before .args .shape) (c .before .before .args .replica))

@@ -1,5 +1,5 @@
 -- The records before it, behind the header.
-use Rattle.record.proofs.LayoutLaws.{header-size-is}
+use Rattle.record.proofs.LayoutLaws.{header-size-high}
 use Rattle.image.proofs.DecodeLaws.{record-begins}
 use native.Mathlib.Omega.{arith}
 use borrow.Author.Needs.{needs}
@@ -13,7 +13,7 @@ mul-result : tie.Need-mul-result
 mul-result c = search needs
 
 add-result : tie.Need-add-result
-add-result c = omega (arith, header-size-is (c .before .args .shape))
+add-result c = omega (arith, header-size-high (c .before .args .shape))
 
 returns : tie.Need-returns
 returns c = omega (arith, record-begins (c .before .args .shape) (c .before .args .k))

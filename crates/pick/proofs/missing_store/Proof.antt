@@ -5,6 +5,7 @@ use Rattle.planner.specs.Plan.{viewsIn}
 use Rattle.protocol.specs.Recovery.{unlike}
 use Rattle.protocol.proofs.UnlikeLaws.{unlike-found}
 use Rattle.recovery.specs.Look.{clusterIn}
+use Rattle.recovery.proofs.BeginsLaws.{survey-one}
 use Rattle.recovery.proofs.FollowerLaws.{looked, looked-leader, image-within}
 use Rattle.recovery.proofs.FollowerStoreLaws.{missing-none, missing-entry, missing-record}
 use native.Mathlib.Omega.{arith}
@@ -56,8 +57,9 @@ returns-2 c =
     let s = v .survey-is in
     let x = looked-leader s (v .shape-is) in
     let h = c .before .before .before .before .before .before .before .pre .replica-below in
-    let y = looked s (v .shape-is) _ h (sym (s .surveyed .readable-is _ h) ∙ c .before .before .before .before .before .before .before .pre .replica-reads) in
-    let u = unlike-found S (c .before .before .before .before .before .before .before .args .cluster .now) _ _ _ _ (v .shape-is) (s .leader-is) (y .length-is) (omega arith) in
+    let on = sym (s .surveyed .readable-is _ h) ∙ c .before .before .before .before .before .before .before .pre .replica-reads in
+    let y = looked s (v .shape-is) _ h on in
+    let u = unlike-found S (c .before .before .before .before .before .before .before .args .cluster .now) _ _ _ _ (v .shape-is) (s .leader-is) (survey-one (c .before .before .before .before .before .before .before .args .cluster .now) s _ h on) (y .length-is) (omega arith) in
     missing-record S (viewsIn S (c .before .before .before .before .before .before .before .args .cluster .now)) _ _ _ (s .leader-is) _ _ _ _ _ x y (c .before .before .before .if1 .left) (u ∙ sym (c .before .before .entry-differs .ensures) ∙ not-true _ (c .before .if2 .taken))
 
 returns-3 : tie.Need-returns-3
@@ -66,8 +68,9 @@ returns-3 c =
     let s = v .survey-is in
     let x = looked-leader s (v .shape-is) in
     let h = c .before .before .before .before .before .before .pre .replica-below in
-    let y = looked s (v .shape-is) _ h (sym (s .surveyed .readable-is _ h) ∙ c .before .before .before .before .before .before .pre .replica-reads) in
-    let u = unlike-found S (c .before .before .before .before .before .before .args .cluster .now) _ _ _ _ (v .shape-is) (s .leader-is) (y .length-is) (omega arith) in
+    let on = sym (s .surveyed .readable-is _ h) ∙ c .before .before .before .before .before .before .pre .replica-reads in
+    let y = looked s (v .shape-is) _ h on in
+    let u = unlike-found S (c .before .before .before .before .before .before .args .cluster .now) _ _ _ _ (v .shape-is) (s .leader-is) (survey-one (c .before .before .before .before .before .before .args .cluster .now) s _ h on) (y .length-is) (omega arith) in
     missing-entry S (viewsIn S (c .before .before .before .before .before .before .args .cluster .now)) _ _ _ (s .leader-is) _ _ _ _ _ x y (c .before .before .if1 .left) (u ∙ sym (c .before .entry-differs .ensures) ∙ not-false _ (c .if2 .left))
 
 pub missing-store-spec : {M : Type 1} → statement M

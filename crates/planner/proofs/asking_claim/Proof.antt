@@ -6,6 +6,7 @@ use Rattle.image.proofs.VerdictLaws.{whole-verdict}
 use Rattle.planner.specs.Rules.{majority, dontHave}
 use Rattle.planner.proofs.VerdictTies.{faulty-verdict, used-verdict}
 use Rattle.planner.proofs.AskingLaws as law
+use Rattle.planner.proofs.FirstLaws.{view-first, first-one, same-one}
 use Rattle.planner.proofs.MajorityLaws as many
 use Rattle.planner.proofs.asking_claim.Statement.{statement}
 use Rattle.planner.proofs.asking_claim.Tie as tie
@@ -16,6 +17,9 @@ returns z = record {
   whole = whole-verdict;
   used = λ m i k ok h. used-verdict m i k (sound-elim m i ok .kept k h);
   readable = law.own-refusal;
+  first = view-first;
+  first-one = λ S b c e. first-one S b c (omega arith);
+  same-one = same-one;
   one-answer = law.one-answer;
   majority-odd = λ k. omega (arith, many.majority-odd k);
   majority-four = unfold majority in omega arith;

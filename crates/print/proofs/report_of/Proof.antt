@@ -1,9 +1,18 @@
 use Rattle.report.proofs.CommandLaws as command
 use Rattle.report.proofs.ReportLaws as law
-use mathlib.Core.Path.{sym, _∙_}
+use Prim.Native.Nat.{ℕ}
+use mathlib.Core.Path.{_≡_, sym, ap, _∙_}
+use native.Mathlib.Omega.{arith}
+use Rattle.slices.specs.Parts.{Bytes}
+use Rattle.report.specs.Report.{clusterReport, firstEdition, Prints}
 use borrow.Author.Needs.{needs}
 use Rattle.print.proofs.report_of.Statement.{statement}
 use Rattle.print.proofs.report_of.Tie as tie
+
+-- what is printed of a cluster of edition e, which is 1
+printed : (n m e leader present : ℕ) (b : Bytes) {page bytes : Bytes} {count : ℕ} → Prints (clusterReport (record { n = n; m = m; edition = e }) leader present b) bytes count → e ≡ 1
+    → clusterReport (firstEdition n m) leader present b ≡ page → Prints page bytes count
+printed n m e leader present b p q f = law.prints (ap (λ (z : ℕ). clusterReport (record { n = n; m = m; edition = z }) leader present b) q ∙ f) p
 
 report-refusal-requires : tie.Need-report-refusal-requires
 report-refusal-requires c κs = search needs
@@ -42,7 +51,9 @@ report-cluster-requires : tie.Need-report-cluster-requires
 report-cluster-requires c κs = search needs
 
 returns-3 : tie.Need-returns-3
-returns-3 c = law.prints (law.well-report _ (c .before .before .before .before .before .before .before .if1 .left) (c .before .before .before .before .before .before .read-command .ensures) (c .before .before .before .before .n .given .1) (c .before .present-word .ensures)) (c .report-cluster .ensures)
+returns-3 c =
+    printed _ _ _ _ _ _ (c .report-cluster .ensures) (omega arith)
+    (law.well-report _ (c .before .before .before .before .before .before .before .if1 .left) (c .before .before .before .before .before .before .read-command .ensures) (c .before .before .before .before .n .given .1) (c .before .present-word .ensures))
 
 pub report-of-spec : {M : Type 1} → statement M
 report-of-spec =

@@ -1,7 +1,7 @@
 -- `read_image` writes only once nothing refuses.
 use Rattle.image.proofs.CallLaws.{slots-high}
 use Rattle.image.proofs.ReadLaws.{opened-slots, opened-size, lent-refused, lent-epochs, lent-verdicts, lent-none, read-refused, read-done, seen-verdicts, seen-epochs}
-use Rattle.image.proofs.DecodeLaws.{entries-end, under-first}
+use Rattle.image.proofs.DecodeLaws.{entries-end, first-is, under-first}
 use native.Mathlib.Omega.{arith}
 use borrow.Author.Needs.{needs}
 use Rattle.read.proofs.read_image.Statement.{statement}
@@ -32,7 +32,15 @@ same-length-2 : tie.Need-same-length-2
 same-length-2 c = search needs
 
 returns-4 : tie.Need-returns-4
-returns-4 c = read-done (lent-none _ _ _ _ _ _ (c .before .before .before .before .before .before .before .before .before .before .before .before .before .before .before .open-image .ensures .0) (c .before .before .before .before .before .before .before .before .before .before .before .before .before .before .if1 .left) (c .before .before .before .before .before .before .before .before .before .before .before .before .before .if2 .left) (c .before .before .before .before .before .before .before .before .before .before .before .before .if3 .left)) _ _ _ _ _ _ _ _ ((c .before .before .before .before .before .before .before .before .before .before .before .before .before .before .before .open-image .ensures .1 (c .before .before .before .before .before .before .before .before .before .before .before .before .before .before .if1 .left)) .length-is) (seen-epochs _ _ _ _ _ (c .before .before .before .before .before .before .before .before .before .before .before .before .before .before .before .open-image .ensures .1 (c .before .before .before .before .before .before .before .before .before .before .before .before .before .before .if1 .left)) _ (c .before .before .before .before .before .before .before .before .before .before .before .before .before .if2 .left) (c .before .before .before .before .before .before .before .fill-epochs .ensures)) (seen-verdicts _ _ _ _ _ (c .before .before .before .before .before .before .before .before .before .before .before .before .before .before .before .open-image .ensures .1 (c .before .before .before .before .before .before .before .before .before .before .before .before .before .before .if1 .left)) (rw (under-first _ _ _ (c .before .before .before .before .before .before .before .before .before .before .before .before .before .before .before .open-image .ensures .1 (c .before .before .before .before .before .before .before .before .before .before .before .before .before .before .if1 .left) .first-is)) at (c .before .before .fill-verdicts .ensures (c .before .before .before .before .before .before .before .before .before .before .before .before .before .before .before .before .before .before .before .args .replica))))
+returns-4 c =
+    let s = c .before .before .before .before .before .before .before .before .before .before .before .before .before .before .before .before .before .before .before .args in
+    let opened = c .before .before .before .before .before .before .before .before .before .before .before .before .before .before .before .open-image .ensures in
+    let seen = opened .1 (c .before .before .before .before .before .before .before .before .before .before .before .before .before .before .if1 .left) in
+    read-done (lent-none _ _ _ _ _ _ (opened .0) (c .before .before .before .before .before .before .before .before .before .before .before .before .before .before .if1 .left) (c .before .before .before .before .before .before .before .before .before .before .before .before .before .if2 .left) (c .before .before .before .before .before .before .before .before .before .before .before .before .if3 .left)) _ _ _ _ _ _ _ _ _ _
+    (omega (arith, seen .length-is))
+    (omega (arith, seen .first-is, first-is (s .shape) (s .replica) (s .image .now)))
+    (seen-epochs _ _ _ _ _ seen _ (c .before .before .before .before .before .before .before .before .before .before .before .before .before .if2 .left) (c .before .before .before .before .before .before .before .fill-epochs .ensures))
+    (seen-verdicts _ _ _ _ _ seen (rw (under-first _ _ _ (seen .first-is)) at (c .before .before .fill-verdicts .ensures (s .replica))))
 
 pub read-image-spec : {M : Type 1} → statement M
 read-image-spec =

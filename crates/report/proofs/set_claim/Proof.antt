@@ -28,8 +28,8 @@ returns z = record {
   full = λ Z leader x b w. printed-full Z leader b w x;
   blank = λ Z leader b w s e. printed-blank Z leader b w (leader-own (Z .n) leader s e) ∙ sym (printed-full Z leader b w _ (narrow (Z .n) leader s e));
   only = λ leader c. one-member (pred leader) c ∙ ap (eqb c) (omega arith);
-  no-leader = λ Z leader b w e. printed-blank Z leader b w (leader-none (Z .n) leader e) ∙ no-leader-refused Z leader b e (omega arith);
-  stray = λ Z leader x b w h s. printed-full Z leader b w x h ∙ stray-refused Z leader x b s (omega arith);
+  no-leader = λ Z leader b w e. printed-blank Z leader b w (leader-none (Z .n) leader e) ∙ no-leader-refused Z (w .edition-one) leader b e (omega arith);
+  stray = λ Z leader x b w h s. printed-full Z leader b w x h ∙ stray-refused Z (w .edition-one) leader x b s (omega arith);
   uncut = whole-log;
   waits = λ Z leader b k s h. alone-byte Z leader b s k h (omega arith);
 }

@@ -10,7 +10,7 @@ use Rattle.recovery.specs.declared.NextStore.{NextStore}
 use Rattle.recovery.specs.Answers.{numbers}
 use Rattle.recovery.proofs.OutcomeLaws.{refused-run, refused-run-bytes, waiting-run, waiting-run-bytes}
 use Rattle.recovery.proofs.OutlookLaws.{sees, in-range, end-fits, waits, readies}
-use Rattle.recovery.proofs.Noting.{Noting, noting-start, noting-fits, noting-within, noted-ready, noted-replica, noted-rests, noting-more, noting-size, noting-recovered, noting-ends}
+use Rattle.recovery.proofs.Noting.{Noting, noting-start, noting-fits, noting-first, noting-within, noted-ready, noted-replica, noted-rests, noting-more, noting-size, noting-recovered, noting-ends}
 use native.Mathlib.Omega.{arith}
 use borrow.Author.Needs.{needs}
 use Rattle.run.proofs.run_cluster.Statement.{statement}
@@ -45,8 +45,8 @@ returns c =
     let o = c .before .open-cluster .ensures in
     (refused-run N b refl (sym (o .0), c .if1 .taken) (a .budget), refused-run-bytes N b refl (sym (o .0), c .if1 .taken) (a .budget))
 
-add-t16 : tie.Need-add-t16 Inv-loop μ-loop
-add-t16 c = search needs
+add-t17 : tie.Need-add-t17 Inv-loop μ-loop
+add-t17 c = search needs
 
 same-length-2 : tie.Need-same-length-2 Inv-loop μ-loop
 same-length-2 c = search needs
@@ -102,30 +102,43 @@ returns-3 c =
     let N = numbers (a .shape) (a .leading) (a .present) in
     counted-recovered (noting-recovered N (c .before .before .before .loop .inv) (sym (c .before .is-outstanding .ensures) ∙ not-true _ (c .if3 .taken))) (omega arith)
 
+mul-first : tie.Need-mul-first Inv-loop μ-loop
+mul-first c =
+    let l = c .before .before .before .loop .inv .surveys .sees .leader-below in
+    let n = c .before .before .before .loop .inv .surveys .sees .few in
+    search needs
+
+element-copy-out-first : tie.Need-element-copy-out-first Inv-loop μ-loop
+element-copy-out-first c =
+    let l = c .before .before .before .loop .inv .surveys .sees .leader-below in
+    let n = c .before .before .before .loop .inv .surveys .sees .few in
+    search needs
+
 make-store-requires : tie.Need-make-store-requires Inv-loop μ-loop
 make-store-requires c κs =
-    let a = c .before .before .before .before .before .before .before .before .before .before .before .before .before .before .before .args in
+    let a = c .before .before .before .before .before .before .before .before .before .before .before .before .before .before .before .before .args in
     let N = numbers (a .shape) (a .leading) (a .present) in
-    noting-fits N (c .before .before .before .before .loop .inv)
+    let g = c .before .before .before .before .before .loop .inv in
+    (noting-fits N g, noting-first N g (omega arith))
 
 add-made : tie.Need-add-made Inv-loop μ-loop
 add-made c = search needs
 
 note-store-requires : tie.Need-note-store-requires Inv-loop μ-loop
 note-store-requires c κs =
-    let a = c .before .before .before .before .before .before .before .before .before .before .before .before .before .before .before .before .before .before .args in
+    let a = c .before .before .before .before .before .before .before .before .before .before .before .before .before .before .before .before .before .before .before .args in
     let N = numbers (a .shape) (a .leading) (a .present) in
-    noting-within N (c .before .before .before .before .before .before .before .loop .inv)
+    noting-within N (c .before .before .before .before .before .before .before .before .loop .inv)
 
 made-on-requires : tie.Need-made-on-requires Inv-loop μ-loop
 made-on-requires c κs = search needs
 
 next-store-requires : tie.Need-next-store-requires Inv-loop μ-loop
 next-store-requires c κs =
-    let a = c .before .before .before .before .before .before .before .before .before .before .before .before .before .before .before .before .before .before .before .before .before .args in
+    let a = c .before .before .before .before .before .before .before .before .before .before .before .before .before .before .before .before .before .before .before .before .before .before .args in
     let N = numbers (a .shape) (a .leading) (a .present) in
-    let g = c .before .before .before .before .before .before .before .before .before .before .loop .inv in
-    let t = sym (c .before .before .before .before .before .before .before .before .is-outstanding .ensures) ∙ not-false _ (c .before .before .before .before .before .before .before .if3 .left) in
+    let g = c .before .before .before .before .before .before .before .before .before .before .before .loop .inv in
+    let t = sym (c .before .before .before .before .before .before .before .before .before .is-outstanding .ensures) ∙ not-false _ (c .before .before .before .before .before .before .before .before .if3 .left) in
     let x = c .before .before .before .before .before .make-store .ensures in
     let f = c .before .before .note-store .ensures in
     let q = c .made-on .ensures in
@@ -136,14 +149,14 @@ loop-less c = search needs
 
 loop-again : tie.Need-loop-again Inv-loop μ-loop
 loop-again c =
-    let a = c .before .before .before .before .before .before .before .before .before .before .before .before .before .before .before .before .before .before .before .before .before .before .args in
+    let a = c .before .before .before .before .before .before .before .before .before .before .before .before .before .before .before .before .before .before .before .before .before .before .before .args in
     let N = numbers (a .shape) (a .leading) (a .present) in
-    let g = c .before .before .before .before .before .before .before .before .before .before .before .loop .inv in
-    let t = sym (c .before .before .before .before .before .before .before .before .before .is-outstanding .ensures) ∙ not-false _ (c .before .before .before .before .before .before .before .before .if3 .left) in
+    let g = c .before .before .before .before .before .before .before .before .before .before .before .before .loop .inv in
+    let t = sym (c .before .before .before .before .before .before .before .before .before .before .is-outstanding .ensures) ∙ not-false _ (c .before .before .before .before .before .before .before .before .before .if3 .left) in
     let x = c .before .before .before .before .before .before .make-store .ensures in
     let f = c .before .before .before .note-store .ensures in
     let q = c .before .made-on .ensures in
-    counted (noting-more N g t x f (c .before .before .before .before .before .before .before .before .before .before .loop-test .taken) (λ v. c .next-store .ensures (a .leading) (a .present) v (noted-rests N g t x f q))) (omega arith)
+    counted (noting-more N g t x f (c .before .before .before .before .before .before .before .before .before .before .before .loop-test .taken) (λ v. c .next-store .ensures (a .leading) (a .present) v (noted-rests N g t x f q))) (omega arith)
 
 run-answer-requires : tie.Need-run-answer-requires Inv-loop μ-loop
 run-answer-requires c κs = search needs
@@ -161,4 +174,4 @@ returns-4 c =
     noting-ends N (c .before .before .loop .inv) (c .before .loop-test .left) (c .run-answer .ensures)
 
 pub run-cluster-spec : {M : Type 1} → statement M
-run-cluster-spec = tie.close (tie.spec Inv-loop μ-loop open-cluster-requires same-length returns add-t16 same-length-2 returns-2 first-store-requires loop-holds is-outstanding-requires same-length-3 returns-3 make-store-requires add-made note-store-requires made-on-requires next-store-requires loop-less loop-again run-answer-requires same-length-4 returns-4)
+run-cluster-spec = tie.close (tie.spec Inv-loop μ-loop open-cluster-requires same-length returns add-t17 same-length-2 returns-2 first-store-requires loop-holds is-outstanding-requires same-length-3 returns-3 mul-first element-copy-out-first make-store-requires add-made note-store-requires made-on-requires next-store-requires loop-less loop-again run-answer-requires same-length-4 returns-4)

@@ -1,12 +1,21 @@
-use Prim.Native.Nat.{_≤_}
-use lib.ListN.{length}
 -- `step_cluster` makes the store that is outstanding, if the cluster is not refused and does not wait.
+use Prim.Native.Nat.{ℕ, _≤_}
+use mathlib.Core.Path.{_≡_}
+use mathlib.Core.List.{List}
+use lib.ListN.{length}
+use Rattle.record.specs.declared.Shape.{Shape}
+use Rattle.recovery.specs.NextStore.{BeginsAt}
+use Rattle.recovery.specs.declared.NextStore.{NextStore}
 use Rattle.recovery.specs.Answers.{numbers}
-use Rattle.recovery.proofs.OutcomeLaws.{slots-few, store-fits, fits-more, refused-step, refused-step-bytes, waiting-step, waiting-step-bytes, ready-accepts, ready-next, ready-stepped, ready-step-bytes}
+use Rattle.recovery.proofs.OutcomeLaws.{slots-few, store-fits, fits-more, refused-step, refused-step-bytes, waiting-step, waiting-step-bytes, ready-accepts, ready-next, ready-begins, ready-stepped, ready-step-bytes}
 use native.Mathlib.Omega.{arith}
 use borrow.Author.Needs.{needs}
 use Rattle.step.proofs.step_cluster.Statement.{statement}
 use Rattle.step.proofs.step_cluster.Tie as tie
+
+-- The index that the log begins at is a number of its own: another one fails on a fact about numbers.
+begun-at : (Z : Shape) (b : List ℕ) (s : NextStore) {x first : ℕ} → BeginsAt Z b s first → x ≡ first → BeginsAt Z b s x
+begun-at Z b s h e = rw e h
 
 view-recovery-requires : tie.Need-view-recovery-requires
 view-recovery-requires c κs = search needs
@@ -28,7 +37,8 @@ make-store-requires c κs =
     let q = c .before .before .store .given .1 in
     let i = c .before .before .before .before .view-recovery .ensures in
     let e = ready-accepts N b q i in
-    (slots-few N b e, store-fits N b e (c .before .before .store .given .0 .0) (ready-next N b q i))
+    let s = c .before .before .store .given .0 .0 in
+    ((slots-few N b e, store-fits N b e s (ready-next N b q i)), begun-at (a .shape) b s (ready-begins N b q i) (omega arith))
 
 step-answer-requires : tie.Need-step-answer-requires
 step-answer-requires c κs =

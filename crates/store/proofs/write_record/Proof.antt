@@ -1,11 +1,7 @@
 -- `write_record` splices the record in where it stands.
 use Prim.Native.Nat.{ℕ}
 use mathlib.Core.Path.{_≡_}
-use Rattle.slices.specs.Parts.{Bytes}
-use Rattle.record.specs.declared.Shape.{Shape}
 use Rattle.image.specs.Image.{index}
-use Rattle.image.specs.Cluster.{firstAt}
-use Rattle.protocol.proofs.FirstLaws.{begins-at-one}
 use Rattle.recovery.proofs.MadeLaws.{record-placed}
 use Rattle.recovery.proofs.OffsetLaws.{record-room}
 use native.Mathlib.Omega.{arith}
@@ -14,8 +10,8 @@ use Rattle.store.proofs.write_record.Statement.{statement}
 use Rattle.store.proofs.write_record.Tie as tie
 
 -- The first index and the slot are numbers of their own: another one fails on a fact about numbers.
-own-index : (Z : Shape) (b : Bytes) (c : ℕ) {first x k i : ℕ} → i ≡ index first x → x ≡ k → first ≡ 1 → i ≡ index (firstAt Z b c) k
-own-index Z b c h e f = rw (h, e, f, begins-at-one Z b c)
+own-index : {x first j k i : ℕ} → i ≡ index x j → x ≡ first → j ≡ k → i ≡ index first k
+own-index h e f = rw (h, e, f)
 
 record-in-requires : tie.Need-record-in-requires
 record-in-requires c κs = search needs
@@ -33,9 +29,8 @@ same-length c = search needs
 
 returns : tie.Need-returns
 returns c =
-    let s = c .before .before .before .before .before .before .before in
     record-placed _ _ _ (c .before .before .before .before .before .record-in .ensures)
-    (own-index (s .args .shape) (s .args .cluster .now) (s .args .c) (c .before .before .before .index-of .ensures) (omega arith) (omega arith))
+    (own-index (c .before .before .before .index-of .ensures) (omega arith) (omega arith))
     (c .before .before .put-record .ensures)
 
 pub write-record-spec : {M : Type 1} → statement M

@@ -11,14 +11,14 @@ use Rattle.survey.proofs.survey_cluster.Statement.{statement}
 use Rattle.survey.proofs.survey_cluster.Tie as tie
 
 abbrev Inv-replicas : tie.InvT-replicas
-Inv-replicas cluster shape present readable₀ lengths₀ conditions₀ epochs₀ c₀ readable lengths conditions epochs c =
-    (shape .n ≤ 7) × (c ≤ shape .n) × Partly (shape .m) (viewsIn (settingOf shape 0 present) cluster) readable lengths conditions epochs c
+Inv-replicas cluster shape present readable₀ firsts₀ lengths₀ conditions₀ epochs₀ c₀ readable firsts lengths conditions epochs c =
+    (shape .n ≤ 7) × (c ≤ shape .n) × Partly (shape .m) (viewsIn (settingOf shape 0 present) cluster) readable firsts lengths conditions epochs c
 
 abbrev μ-replicas : tie.MeasureT-replicas
-μ-replicas cluster shape present readable₀ lengths₀ conditions₀ epochs₀ c₀ readable lengths conditions epochs c = shape .n - c
+μ-replicas cluster shape present readable₀ firsts₀ lengths₀ conditions₀ epochs₀ c₀ readable firsts lengths conditions epochs c = shape .n - c
 
 replicas-holds : tie.Need-replicas-holds Inv-replicas μ-replicas
-replicas-holds c = (size-high _ (c .before .pre .0), search needs, partly-none _ _ _ _ _ refl refl refl)
+replicas-holds c = (size-high _ (c .before .pre .0), search needs, partly-none _ _ _ _ _ _ refl refl refl refl)
 
 contains-requires : tie.Need-contains-requires Inv-replicas μ-replicas
 contains-requires c κs = search needs
@@ -46,6 +46,12 @@ replicas-again-2 c = (search needs, search needs, partly-skip _ (c .before .befo
 
 insert-requires : tie.Need-insert-requires Inv-replicas μ-replicas
 insert-requires c κs = search needs
+
+mul-firsts : tie.Need-mul-firsts Inv-replicas μ-replicas
+mul-firsts c = search needs
+
+array-write-firsts : tie.Need-array-write-firsts Inv-replicas μ-replicas
+array-write-firsts c = search needs
 
 mul-lengths : tie.Need-mul-lengths Inv-replicas μ-replicas
 mul-lengths c = search needs
@@ -93,6 +99,8 @@ survey-cluster-spec =
     replicas-less-2
     replicas-again-2
     insert-requires
+    mul-firsts
+    array-write-firsts
     mul-lengths
     array-write-lengths
     copy-slots-requires

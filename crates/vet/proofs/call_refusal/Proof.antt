@@ -1,49 +1,43 @@
--- `call_refusal` tries the caller's numbers in the order of their refusals; m is bounded before the size is worked out.
-use mathlib.Core.Path.{sym, _∙_}
-use borrow.Author.Tests.{not-true, not-false}
-use Rattle.image.proofs.CallLaws.{slots-few, slots-many, is-slots, replica-low, replica-high, is-replica, call-slots, call-size, call-replica, call-bytes, call-none}
+-- `call_refusal` tries the size last; m is bounded before it is worked out.
+use Prim.Native.Nat.{ℕ, _≤_}
+use mathlib.Core.Path.{_≡_, sym, _∙_}
+use Rattle.record.specs.declared.Shape.{Shape}
+use Rattle.image.specs.View.{namedRefusal}
+use Rattle.image.proofs.CallLaws.{slots-high, named-slots-in, call-named, call-bytes, call-none}
 use native.Mathlib.Omega.{arith}
 use borrow.Author.Needs.{needs}
 use Rattle.vet.proofs.call_refusal.Statement.{statement}
 use Rattle.vet.proofs.call_refusal.Tie as tie
 
+-- m is bounded where nothing is refused
+few : (Z : Shape) (c : ℕ) {r : ℕ} → r ≡ namedRefusal Z c → r ≡ 0 → Z .m ≤ 64
+few Z c e z = slots-high (Z .m) (named-slots-in Z c (sym e ∙ z))
+
+-- the code answers the law's number
+by : (y : ℕ) {x r : ℕ} → x ≡ y → y ≡ r → x ≡ r
+by y e h = e ∙ h
+
+named-refusal-requires : tie.Need-named-refusal-requires
+named-refusal-requires c κs = search needs
+
 returns : tie.Need-returns
-returns c = call-slots _ _ _ (slots-few _ (c .if1 .taken))
-
-returns-2 : tie.Need-returns-2
-returns-2 c = call-slots _ _ _ (slots-many _ (c .if2 .taken))
-
-is-size-requires : tie.Need-is-size-requires
-is-size-requires c κs = search needs
-
-returns-3 : tie.Need-returns-3
-returns-3 c = call-size _ _ _ (is-slots _ (omega arith) (omega arith)) (sym (c .before .is-size .ensures) ∙ not-true _ (c .if3 .taken))
-
-returns-4 : tie.Need-returns-4
-returns-4 c = call-replica _ _ _ (is-slots _ (omega arith) (omega arith)) (replica-low _ _ (omega arith))
-
-returns-5 : tie.Need-returns-5
-returns-5 c = call-replica _ _ _ (is-slots _ (omega arith) (omega arith)) (replica-high _ _ (omega arith))
+returns c = call-named _ _ _ (c .before .named-refusal .ensures) (λ e. omega (arith, e, c .if1 .taken))
 
 image-size-requires : tie.Need-image-size-requires
-image-size-requires c κs = search needs
+image-size-requires c κs = few _ _ (c .before .named-refusal .ensures) (omega (arith, c .if1 .left))
 
-returns-6 : tie.Need-returns-6
-returns-6 c = call-bytes _ _ _ (is-slots _ (omega arith) (omega arith)) (sym (c .before .before .before .before .before .is-size .ensures) ∙ not-false _ (c .before .before .before .before .if3 .left)) (is-replica _ _ (omega arith) (omega arith)) (λ e. c .if6 .taken (e ∙ sym (c .before .image-size .ensures)))
+returns-2 : tie.Need-returns-2
+returns-2 c = by 0 (omega arith) (call-none _ _ _ (c .before .before .before .named-refusal .ensures) (omega (arith, c .before .before .if1 .left)) (omega (arith, c .if2 .taken, c .before .image-size .ensures)))
 
-returns-7 : tie.Need-returns-7
-returns-7 c = call-none _ _ _ (is-slots _ (omega arith) (omega arith)) (sym (c .before .before .before .before .before .is-size .ensures) ∙ not-false _ (c .before .before .before .before .if3 .left)) (is-replica _ _ (omega arith) (omega arith)) (c .if6 .left ∙ c .before .image-size .ensures)
+returns-3 : tie.Need-returns-3
+returns-3 c = by 3 (omega arith) (call-bytes _ _ _ (c .before .before .before .named-refusal .ensures) (omega (arith, c .before .before .if1 .left)) (λ e. omega (arith, e, c .if2 .left, c .before .image-size .ensures)))
 
 pub call-refusal-spec : {M : Type 1} → statement M
 call-refusal-spec =
     tie.close
     (tie.spec
+    named-refusal-requires
     returns
-    returns-2
-    is-size-requires
-    returns-3
-    returns-4
-    returns-5
     image-size-requires
-    returns-6
-    returns-7)
+    returns-2
+    returns-3)

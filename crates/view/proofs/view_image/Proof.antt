@@ -8,6 +8,9 @@ use Rattle.record.specs.declared.HeaderState.{HeaderState}
 use Rattle.record.specs.Layout.{headerSize}
 use Rattle.record.specs.Meaning.{readHeader}
 use Rattle.record.specs.Judged.{headerAnswer}
+use Rattle.image.specs.Image.{Image, decodeUnder}
+use Rattle.image.specs.Seen.{Seen}
+use Rattle.image.specs.Scan.{Scanned}
 use Rattle.image.proofs.CallLaws.{slots-high}
 use Rattle.image.proofs.DecodeLaws.{size-is, entries-end}
 use Rattle.image.proofs.ScanLaws.{length-within}
@@ -21,6 +24,18 @@ use Rattle.view.proofs.view_image.Tie as tie
 front-judged : (Z : Shape) (c : ℕ) (b : List ℕ) {e : ℕ} {a : HeaderState} → e ≡ headerSize Z → a ≡ headerAnswer (readHeader Z c (take (e - 0) b))
     → a ≡ headerAnswer (readHeader Z c (take (headerSize Z) b))
 front-judged Z c b {e} q h = let z : e - 0 ≡ headerSize Z = omega arith in rw z at h
+
+-- the code answers the law's number
+by : (y : ℕ) {x r : ℕ} → x ≡ y → y ≡ r → x ≡ r
+by y e h = e ∙ h
+
+-- the scan and the view, for numbers that are the first index
+scanned-from : (Z : Shape) (c : ℕ) (b : List ℕ) (first : ℕ) {f : ℕ} {cs es : List ℕ} → f ≡ first → Scanned (Z .m) (decodeUnder Z c f b) cs es
+    → Scanned (Z .m) (decodeUnder Z c first b) cs es
+scanned-from Z c b first e s = rw e at s
+
+seen-from : (m : ℕ) (i : Image) (first : ℕ) {f len : ℕ} {cs es : List ℕ} → f ≡ first → Seen m i first len cs es → Seen m i f len cs es
+seen-from m i first e s = rw e s
 
 header-size-requires : tie.Need-header-size-requires
 header-size-requires c κs = search needs
@@ -50,7 +65,7 @@ returns : tie.Need-returns
 returns c =
     let s = c .before .before .before .before .before .before .before .args in
     let judged = front-judged (s .shape) (s .replica) (s .image .now) (c .before .before .before .before .before .header-size .ensures) (c .before .before .before .judge-header .ensures) in
-    (c .refused-view .ensures ∙ view-improper (s .shape) (s .replica) (s .image .now) judged (c .before .enum-told .given .1), λ e. absurd (omega (arith, e, c .refused-view .ensures)))
+    (by 4 (omega (arith, c .refused-view .ensures)) (view-improper (s .shape) (s .replica) (s .image .now) judged (c .before .enum-told .given .1)), λ e. absurd (omega (arith, e, c .refused-view .ensures)))
 
 scan-requires : tie.Need-scan-requires
 scan-requires c κs =
@@ -68,9 +83,9 @@ returns-2 c =
     let s = c .before .before .before .before .before .before .before .before .before .before .before .before .before .before .before .args in
     let judged = front-judged (s .shape) (s .replica) (s .image .now) (c .before .before .before .before .before .before .before .before .before .before .before .before .before .header-size .ensures) (c .before .before .before .before .before .before .before .before .before .before .before .judge-header .ensures) in
     let proper = c .before .before .before .before .before .before .before .before .before .first .given .1 in
-    let scanned = c .before .before .before .before .before .before .before .scan .ensures (s .replica) in
+    let scanned = scanned-from (s .shape) (s .replica) (s .image .now) (c .before .before .before .before .before .before .before .before .before .first .given .0 .0) (omega arith) (c .before .before .before .before .before .before .before .scan .ensures (s .replica)) in
     let used = c .before .before .before .log-length .ensures in
-    (view-scanned (s .shape) (s .replica) (s .image .now) judged proper scanned used (c .scan-refusal .ensures), λ e. view-seen (s .shape) (s .replica) (s .image .now) judged proper scanned used)
+    (view-scanned (s .shape) (s .replica) (s .image .now) judged proper scanned used (c .scan-refusal .ensures), λ e. seen-from _ _ (c .before .before .before .before .before .before .before .before .before .first .given .0 .0) (omega arith) (view-seen (s .shape) (s .replica) (s .image .now) judged proper scanned used))
 
 pub view-image-spec : {M : Type 1} → statement M
 view-image-spec =

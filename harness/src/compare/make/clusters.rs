@@ -3,6 +3,7 @@
 use super::{old_bytes, Call, Guarded, Outcome, Rng, Side};
 use crate::compare::Answer;
 use crate::guarded::GuardedNumber;
+use crate::model::Shape;
 use crate::proved::clusters::ReplicaRow;
 
 pub fn make(call: &Call, side: &Side, rng: &mut Rng) -> Option<Outcome> {
@@ -28,6 +29,7 @@ fn plan(call: &Call, side: &Side, rng: &mut Rng) -> Option<Outcome> {
     let &Call::Plan {
         n,
         m,
+        edition,
         leader,
         present,
         slots,
@@ -43,8 +45,7 @@ fn plan(call: &Call, side: &Side, rng: &mut Rng) -> Option<Outcome> {
     let (mut status, mut number) = (GuardedNumber::drawn(rng), GuardedNumber::drawn(rng));
     let answer = (side.plan)(
         cluster.part(),
-        n,
-        m,
+        Shape { n, m, edition },
         leader,
         present,
         plan.part_mut(),
@@ -65,6 +66,7 @@ fn step(call: &Call, side: &Side, rng: &mut Rng) -> Option<Outcome> {
     let &Call::Step {
         n,
         m,
+        edition,
         leader,
         present,
         ref cluster,
@@ -77,8 +79,7 @@ fn step(call: &Call, side: &Side, rng: &mut Rng) -> Option<Outcome> {
     let (mut slot, mut kind) = (GuardedNumber::drawn(rng), GuardedNumber::drawn(rng));
     let answer = (side.step)(
         cluster.part_mut(),
-        n,
-        m,
+        Shape { n, m, edition },
         leader,
         present,
         status.number_mut(),
@@ -99,6 +100,7 @@ fn run(call: &Call, side: &Side, rng: &mut Rng) -> Option<Outcome> {
     let &Call::Run {
         n,
         m,
+        edition,
         leader,
         present,
         budget,
@@ -112,8 +114,7 @@ fn run(call: &Call, side: &Side, rng: &mut Rng) -> Option<Outcome> {
     let mut slot = GuardedNumber::drawn(rng);
     let answer = (side.run)(
         cluster.part_mut(),
-        n,
-        m,
+        Shape { n, m, edition },
         leader,
         present,
         budget,

@@ -3,31 +3,37 @@
 use super::{old_bytes, Call, Guarded, Outcome, Rng, Side};
 use crate::compare::Answer;
 use crate::guarded::GuardedNumber;
+use crate::model::Shape;
 
 pub fn make(call: &Call, side: &Side, rng: &mut Rng) -> Option<Outcome> {
     let outcome = match *call {
         Call::Format {
             length,
-            replica,
             n,
             m,
+            edition,
+            replica,
+            first,
         } => {
             let mut image = old_bytes(rng, length);
-            let answer = (side.format)(image.part_mut(), replica, n, m);
+            let shape = Shape { n, m, edition };
+            let answer = (side.format)(image.part_mut(), shape, replica, first);
             Outcome::new(Answer::Refusal(answer)).with_bytes("image", image)
         }
         Call::Append { .. } => append(call, side, rng)?,
         Call::Read { .. } => read(call, side, rng)?,
         Call::HasPayload {
             ref image,
-            replica,
             n,
             m,
+            edition,
+            replica,
             slot,
         } => {
             let image = Guarded::new(rng, image);
+            let shape = Shape { n, m, edition };
             let mut has = GuardedNumber::drawn(rng);
-            let answer = (side.has_payload)(image.part(), replica, n, m, slot, has.number_mut());
+            let answer = (side.has_payload)(image.part(), shape, replica, slot, has.number_mut());
             Outcome::new(Answer::Refusal(answer))
                 .with_bytes("image", image)
                 .with_number("has", has)
@@ -40,9 +46,10 @@ pub fn make(call: &Call, side: &Side, rng: &mut Rng) -> Option<Outcome> {
 
 fn append(call: &Call, side: &Side, rng: &mut Rng) -> Option<Outcome> {
     let &Call::Append {
-        replica,
         n,
         m,
+        edition,
+        replica,
         epoch,
         ref payload,
         ref image,
@@ -55,9 +62,8 @@ fn append(call: &Call, side: &Side, rng: &mut Rng) -> Option<Outcome> {
     let mut slot = GuardedNumber::drawn(rng);
     let answer = (side.append)(
         image.part_mut(),
+        Shape { n, m, edition },
         replica,
-        n,
-        m,
         epoch,
         payload.part(),
         slot.number_mut(),
@@ -71,9 +77,10 @@ fn append(call: &Call, side: &Side, rng: &mut Rng) -> Option<Outcome> {
 
 fn read(call: &Call, side: &Side, rng: &mut Rng) -> Option<Outcome> {
     let &Call::Read {
-        replica,
         n,
         m,
+        edition,
+        replica,
         epochs,
         verdicts,
         ref image,
@@ -85,29 +92,31 @@ fn read(call: &Call, side: &Side, rng: &mut Rng) -> Option<Outcome> {
     let old: Vec<u32> = (0..epochs).map(|_| rng.draw() as u32).collect();
     let mut epochs = Guarded::new(rng, &old);
     let mut verdicts = old_bytes(rng, verdicts);
-    let mut used = GuardedNumber::drawn(rng);
+    let (mut used, mut first) = (GuardedNumber::drawn(rng), GuardedNumber::drawn(rng));
     let answer = (side.read)(
         image.part(),
+        Shape { n, m, edition },
         replica,
-        n,
-        m,
         epochs.part_mut(),
         verdicts.part_mut(),
         used.number_mut(),
+        first.number_mut(),
     );
     let outcome = Outcome::new(Answer::Refusal(answer))
         .with_bytes("image", image)
         .with_words("epochs", epochs)
         .with_bytes("verdicts", verdicts)
-        .with_number("used", used);
+        .with_number("used", used)
+        .with_number("first", first);
     Some(outcome)
 }
 
 fn payload(call: &Call, side: &Side, rng: &mut Rng) -> Option<Outcome> {
     let &Call::Payload {
-        replica,
         n,
         m,
+        edition,
+        replica,
         slot,
         ref image,
     } = call
@@ -117,7 +126,8 @@ fn payload(call: &Call, side: &Side, rng: &mut Rng) -> Option<Outcome> {
     let image = Guarded::new(rng, image);
     let (mut at, mut size) = (GuardedNumber::drawn(rng), GuardedNumber::drawn(rng));
     let (lent_at, lent_size) = (at.number_mut(), size.number_mut());
-    (side.payload)(image.part(), replica, n, m, slot, lent_at, lent_size);
+    let shape = Shape { n, m, edition };
+    (side.payload)(image.part(), shape, replica, slot, lent_at, lent_size);
     let outcome = Outcome::new(Answer::Nothing)
         .with_bytes("image", image)
         .with_number("at", at)

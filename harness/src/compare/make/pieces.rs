@@ -3,6 +3,7 @@
 use super::{old_bytes, Call, Guarded, Outcome, Rng, Side};
 use crate::compare::Answer;
 use crate::guarded::GuardedNumber;
+use crate::model::Shape;
 use crate::proved::Written;
 
 pub fn make(call: &Call, side: &Side, rng: &mut Rng) -> Option<Outcome> {
@@ -23,20 +24,28 @@ pub fn make(call: &Call, side: &Side, rng: &mut Rng) -> Option<Outcome> {
         }
         Call::WriteHeader {
             length,
-            replica,
             n,
             m,
+            edition,
+            replica,
+            first,
         } => write("header", length, rng, |header| {
-            (side.write_header)(header, replica, n, m)
+            (side.write_header)(header, Shape { n, m, edition }, replica, first)
         }),
-        Call::IsHeader {
+        Call::JudgeHeader {
             ref header,
-            replica,
             n,
             m,
-        } => judge("header", header, rng, |header| {
-            Answer::Flag((side.is_header)(header, replica, n, m))
-        }),
+            edition,
+            replica,
+        } => {
+            let (shape, mut first) = (Shape { n, m, edition }, GuardedNumber::drawn(rng));
+            judge("header", header, rng, |header| {
+                let first = first.number_mut();
+                Answer::Header((side.judge_header)(header, shape, replica, first))
+            })
+            .with_number("first", first)
+        }
         _ => return make_of_slot(call, side, rng),
     };
     Some(outcome)

@@ -1,10 +1,9 @@
-use Rattle.ropelog.proofs.ClusterCallLaws.{run-at, run-answered}
+use Rattle.ropelog.proofs.ClusterCallLaws.{run-answered}
+use mathlib.Core.Path.{refl}
+use native.Mathlib.Omega.{arith}
 use borrow.Author.Needs.{needs}
 use Rattle.ropelog.proofs.clusters.rope_run.Statement.{statement}
 use Rattle.ropelog.proofs.clusters.rope_run.Tie as tie
-
-shape-of-requires : tie.Need-shape-of-requires
-shape-of-requires c κs = search needs
 
 run-cluster-requires : tie.Need-run-cluster-requires
 run-cluster-requires c κs = search needs
@@ -27,8 +26,8 @@ same-length c = search needs
 returns : tie.Need-returns
 returns c =
     let d = c .before .before .before .before .before in
-    let e = run-at (d .before .shape-of .ensures) _ _ _ _ (d .run-cluster .ensures) in
-    run-answered _ _ _ _ _ (c .before .made .given .1) (e .0) (e .1) _ _ _
+    let e = d .run-cluster .ensures in
+    run-answered _ _ _ _ _ (c .before .made .given .1) (e .0) (e .1) _ _ _ refl (omega arith) (omega arith) refl
 
 same-length-2 : tie.Need-same-length-2
 same-length-2 c = search needs
@@ -36,8 +35,8 @@ same-length-2 c = search needs
 returns-2 : tie.Need-returns-2
 returns-2 c =
     let d = c .before .before .before .before .before in
-    let e = run-at (d .before .shape-of .ensures) _ _ _ _ (d .run-cluster .ensures) in
-    run-answered _ _ _ _ _ (c .before .spent .given .1) (e .0) (e .1) _ _ _
+    let e = d .run-cluster .ensures in
+    run-answered _ _ _ _ _ (c .before .spent .given .1) (e .0) (e .1) _ _ _ refl (omega arith) (omega arith) refl
 
 same-length-3 : tie.Need-same-length-3
 same-length-3 c = search needs
@@ -45,8 +44,8 @@ same-length-3 c = search needs
 returns-3 : tie.Need-returns-3
 returns-3 c =
     let d = c .before .before .before .before .before in
-    let e = run-at (d .before .shape-of .ensures) _ _ _ _ (d .run-cluster .ensures) in
-    run-answered _ _ _ _ _ (c .before .waiting .given .1) (e .0) (e .1) _ _ _
+    let e = d .run-cluster .ensures in
+    run-answered _ _ _ _ _ (c .before .waiting .given .1) (e .0) (e .1) _ _ _ refl (omega arith) (omega arith) (omega arith)
 
 same-length-4 : tie.Need-same-length-4
 same-length-4 c = search needs
@@ -54,14 +53,13 @@ same-length-4 c = search needs
 returns-4 : tie.Need-returns-4
 returns-4 c =
     let d = c .before .before .before .before .before in
-    let e = run-at (d .before .shape-of .ensures) _ _ _ _ (d .run-cluster .ensures) in
-    run-answered _ _ _ _ _ (c .before .refusal .given .1) (e .0) (e .1) _ _ _
+    let e = d .run-cluster .ensures in
+    run-answered _ _ _ _ _ (c .before .refusal .given .1) (e .0) (e .1) _ _ _ (omega arith) refl refl refl
 
 pub rope-run-spec : {M : Type 1} → statement M
 rope-run-spec =
     tie.close
     (tie.spec
-    shape-of-requires
     run-cluster-requires
     enum-known-made
     enum-known-spent

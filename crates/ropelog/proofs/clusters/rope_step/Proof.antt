@@ -1,10 +1,9 @@
-use Rattle.ropelog.proofs.ClusterCallLaws.{step-at, step-answered}
+use Rattle.ropelog.proofs.ClusterCallLaws.{step-answered}
+use mathlib.Core.Path.{refl}
+use native.Mathlib.Omega.{arith}
 use borrow.Author.Needs.{needs}
 use Rattle.ropelog.proofs.clusters.rope_step.Statement.{statement}
 use Rattle.ropelog.proofs.clusters.rope_step.Tie as tie
-
-shape-of-requires : tie.Need-shape-of-requires
-shape-of-requires c κs = search needs
 
 step-cluster-requires : tie.Need-step-cluster-requires
 step-cluster-requires c κs = search needs
@@ -27,8 +26,8 @@ same-length c = search needs
 returns : tie.Need-returns
 returns c =
     let d = c .before .before .before .before .before in
-    let e = step-at (d .before .shape-of .ensures) _ _ _ _ (d .step-cluster .ensures) in
-    step-answered _ _ _ _ _ (c .before .on .given .1) (e .0) (e .1) _ _ _ _
+    let e = d .step-cluster .ensures in
+    step-answered _ _ _ _ _ (c .before .on .given .1) (e .0) (e .1) _ _ _ _ refl (omega arith) (omega arith) (omega arith) (omega arith)
 
 same-length-2 : tie.Need-same-length-2
 same-length-2 c = search needs
@@ -36,8 +35,8 @@ same-length-2 c = search needs
 returns-2 : tie.Need-returns-2
 returns-2 c =
     let d = c .before .before .before .before in
-    let e = step-at (d .before .shape-of .ensures) _ _ _ _ (d .step-cluster .ensures) in
-    step-answered _ _ _ _ _ (c .enum-told .given .1) (e .0) (e .1) _ _ _ _
+    let e = d .step-cluster .ensures in
+    step-answered _ _ _ _ _ (c .enum-told .given .1) (e .0) (e .1) _ _ _ _ refl refl refl refl refl
 
 same-length-3 : tie.Need-same-length-3
 same-length-3 c = search needs
@@ -45,8 +44,8 @@ same-length-3 c = search needs
 returns-3 : tie.Need-returns-3
 returns-3 c =
     let d = c .before .before .before .before .before in
-    let e = step-at (d .before .shape-of .ensures) _ _ _ _ (d .step-cluster .ensures) in
-    step-answered _ _ _ _ _ (c .before .waiting .given .1) (e .0) (e .1) _ _ _ _
+    let e = d .step-cluster .ensures in
+    step-answered _ _ _ _ _ (c .before .waiting .given .1) (e .0) (e .1) _ _ _ _ refl (omega arith) refl (omega arith) refl
 
 same-length-4 : tie.Need-same-length-4
 same-length-4 c = search needs
@@ -54,14 +53,13 @@ same-length-4 c = search needs
 returns-4 : tie.Need-returns-4
 returns-4 c =
     let d = c .before .before .before .before .before in
-    let e = step-at (d .before .shape-of .ensures) _ _ _ _ (d .step-cluster .ensures) in
-    step-answered _ _ _ _ _ (c .before .refusal .given .1) (e .0) (e .1) _ _ _ _
+    let e = d .step-cluster .ensures in
+    step-answered _ _ _ _ _ (c .before .refusal .given .1) (e .0) (e .1) _ _ _ _ (omega arith) refl refl refl refl
 
 pub rope-step-spec : {M : Type 1} → statement M
 rope-step-spec =
     tie.close
     (tie.spec
-    shape-of-requires
     step-cluster-requires
     enum-known-on
     enum-told

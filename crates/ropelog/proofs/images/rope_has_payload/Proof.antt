@@ -1,12 +1,10 @@
 use Rattle.ropelog.proofs.ImageCallLaws.{has-at, has-present, has-absent, has-refused}
 use mathlib.Core.Path.{sym, ap, _∙_}
 use Rattle.image.specs.Answers.{payloadNumbers}
+use native.Mathlib.Omega.{arith}
 use borrow.Author.Needs.{needs}
 use Rattle.ropelog.proofs.images.rope_has_payload.Statement.{statement}
 use Rattle.ropelog.proofs.images.rope_has_payload.Tie as tie
-
-shape-of-requires : tie.Need-shape-of-requires
-shape-of-requires c κs = search needs
 
 has-payload-requires : tie.Need-has-payload-requires
 has-payload-requires c κs = search needs
@@ -21,19 +19,18 @@ enum-known-refusal : tie.Need-enum-known-refusal
 enum-known-refusal c = search needs
 
 returns : tie.Need-returns
-returns c = has-present _ _ _ (ap payloadNumbers (sym (c .enum-told .given .1)) ∙ has-at (c .before .before .before .shape-of .ensures) _ _ _ (c .before .before .has-payload .ensures))
+returns c = has-present _ _ _ (ap payloadNumbers (sym (c .enum-told .given .1)) ∙ has-at _ _ _ _ _ (c .before .before .has-payload .ensures) (omega arith)) (omega arith)
 
 returns-2 : tie.Need-returns-2
-returns-2 c = has-absent _ _ _ (ap payloadNumbers (sym (c .enum-told2 .given .1)) ∙ has-at (c .before .before .before .shape-of .ensures) _ _ _ (c .before .before .has-payload .ensures))
+returns-2 c = has-absent _ _ _ (ap payloadNumbers (sym (c .enum-told2 .given .1)) ∙ has-at _ _ _ _ _ (c .before .before .has-payload .ensures) (omega arith)) (omega arith)
 
 returns-3 : tie.Need-returns-3
-returns-3 c = has-refused _ _ _ _ (ap payloadNumbers (sym (c .before .refusal .given .1)) ∙ has-at (c .before .before .before .before .shape-of .ensures) _ _ _ (c .before .before .before .has-payload .ensures))
+returns-3 c = has-refused _ _ _ _ (ap payloadNumbers (sym (c .before .refusal .given .1)) ∙ has-at _ _ _ _ _ (c .before .before .before .has-payload .ensures) (omega arith))
 
 pub rope-has-payload-spec : {M : Type 1} → statement M
 rope-has-payload-spec =
     tie.close
     (tie.spec
-    shape-of-requires
     has-payload-requires
     enum-told
     enum-told-2

@@ -1,11 +1,8 @@
-use Rattle.ropelog.proofs.ImageCallLaws.{payload-at, payload-part}
+use Rattle.ropelog.proofs.ImageCallLaws.{payload-part}
 use native.Mathlib.Omega.{arith}
 use borrow.Author.Needs.{needs}
 use Rattle.ropelog.proofs.images.rope_payload.Statement.{statement}
 use Rattle.ropelog.proofs.images.rope_payload.Tie as tie
-
-shape-of-requires : tie.Need-shape-of-requires
-shape-of-requires c κs = search needs
 
 payload-span-requires : tie.Need-payload-span-requires
 payload-span-requires c κs = search needs
@@ -14,7 +11,7 @@ sub-size : tie.Need-sub-size
 sub-size c = search needs
 
 returns : tie.Need-returns
-returns c = payload-part _ _ _ _ _ (c .payload-span .ensures .0) (payload-at (c .before .shape-of .ensures) _ _ _ (c .payload-span .ensures .1)) (omega arith) (omega arith)
+returns c = payload-part _ _ _ _ _ (c .payload-span .ensures .0) (c .payload-span .ensures .1) (omega arith) (omega arith)
 
 pub rope-payload-spec : {M : Type 1} → statement M
-rope-payload-spec = tie.close (tie.spec shape-of-requires payload-span-requires sub-size returns)
+rope-payload-spec = tie.close (tie.spec payload-span-requires sub-size returns)

@@ -1,12 +1,10 @@
-use Rattle.ropelog.proofs.ImageCallLaws.{read-at, read-done, read-refused}
+use Rattle.ropelog.proofs.ImageCallLaws.{read-done, read-refused}
 use mathlib.Core.Path.{sym, ap, _∙_}
 use Rattle.image.specs.Answers.{readNumbers}
+use native.Mathlib.Omega.{arith}
 use borrow.Author.Needs.{needs}
 use Rattle.ropelog.proofs.images.rope_read.Statement.{statement}
 use Rattle.ropelog.proofs.images.rope_read.Tie as tie
-
-shape-of-requires : tie.Need-shape-of-requires
-shape-of-requires c κs = search needs
 
 read-image-requires : tie.Need-read-image-requires
 read-image-requires c κs = search needs
@@ -26,8 +24,8 @@ same-length-2 c = search needs
 returns : tie.Need-returns
 returns c =
     let d = c .before .before .before .before .before .before .before in
-    let e = read-at (d .before .before .before .shape-of .ensures) _ _ _ _ (d .read-image .ensures) in
-    read-done _ _ _ _ _ _ _ _ (e .1) (e .2) _ _ (ap readNumbers (sym (c .before .length .given .1)) ∙ e .0)
+    let e = d .read-image .ensures in
+    read-done _ _ _ _ _ _ _ _ _ (e .1) (e .2) _ _ _ _ (ap readNumbers (sym (c .before .length .given .1)) ∙ e .0) (omega arith) (omega arith)
 
 same-length-3 : tie.Need-same-length-3
 same-length-3 c = search needs
@@ -38,14 +36,13 @@ same-length-4 c = search needs
 returns-2 : tie.Need-returns-2
 returns-2 c =
     let d = c .before .before .before .before .before .before .before in
-    let e = read-at (d .before .before .before .shape-of .ensures) _ _ _ _ (d .read-image .ensures) in
-    read-refused _ _ _ _ _ _ _ _ (e .1) (e .2) _ _ (ap readNumbers (sym (c .before .refusal .given .1)) ∙ e .0)
+    let e = d .read-image .ensures in
+    read-refused _ _ _ _ _ _ _ _ _ (e .1) (e .2) _ _ _ (ap readNumbers (sym (c .before .refusal .given .1)) ∙ e .0) (omega arith) (omega arith)
 
 pub rope-read-spec : {M : Type 1} → statement M
 rope-read-spec =
     tie.close
     (tie.spec
-    shape-of-requires
     read-image-requires
     enum-known-length
     enum-known-refusal

@@ -5,24 +5,21 @@ use borrow.Author.Needs.{needs}
 use Rattle.ropelog.proofs.pieces.rope_judge_header.Statement.{statement}
 use Rattle.ropelog.proofs.pieces.rope_judge_header.Tie as tie
 
-shape-of-requires : tie.Need-shape-of-requires
-shape-of-requires c κs = search needs
-
 judge-header-requires : tie.Need-judge-header-requires
 judge-header-requires c κs = search needs
+
+enum-known-given : tie.Need-enum-known-given
+enum-known-given c = search needs
 
 enum-told : tie.Need-enum-told
 enum-told c = search needs
 
-enum-told-2 : tie.Need-enum-told-2
-enum-told-2 c = search needs
-
 returns : tie.Need-returns
-returns c = header-judged _ _ _ (c .before .before .before .shape-of .ensures) (sym (c .enum-told .given .1) ∙ c .before .before .judge-header .ensures) _ (omega arith)
+returns c = header-judged _ _ _ _ _ (sym (c .before .given .given .1) ∙ c .before .before .before .judge-header .ensures) _ _ (omega arith) (omega arith)
 
 returns-2 : tie.Need-returns-2
-returns-2 c = header-judged _ _ _ (c .before .before .before .shape-of .ensures) (sym (c .enum-told2 .given .1) ∙ c .before .before .judge-header .ensures) _ (omega arith)
+returns-2 c = header-judged _ _ _ _ _ (sym (c .enum-told .given .1) ∙ c .before .before .judge-header .ensures) _ _ (omega arith) (omega arith)
 
 pub rope-judge-header-spec : {M : Type 1} → statement M
 rope-judge-header-spec =
-    tie.close (tie.spec shape-of-requires judge-header-requires enum-told enum-told-2 returns returns-2)
+    tie.close (tie.spec judge-header-requires enum-known-given enum-told returns returns-2)
