@@ -209,7 +209,7 @@ module _ (S : Setting) (F G : Cluster) (H : ℕ → History) (I e : ℕ) (p : By
       let o = stood in
       let x = held-elim I e (H (o .replica)) (o .there) in
       let y = held-elim I e (H c) h in
-      s .agree c (o .replica) I cn (o .below) (y .within) (x .within) (y .epoch ∙ sym (x .epoch)) .payloads I (y .within .low) (x .within .low) (omega arith) ∙ o .payload
+      s .agree c (o .replica) I cn (o .below) (y .within) (x .within) (y .epoch ∙ sym (x .epoch)) .payloads I (y .within .low) (omega (arith, x .within .low)) (omega arith) ∙ o .payload
 
   -- an entry that a log held, intact with its epoch, has the payload
   pub base-payload : (c k : ℕ) (q : Bytes) → c < S .shape .n → held I e (H c) ≡ true → H c .first + k ≡ I → G c .entries k ≡ intact e q → q ≡ p

@@ -1,18 +1,14 @@
 -- Too low, too high, or no room for the last slot.
 use Prim.Native.Nat.{ℕ, _+_, _-_, _≤_}
-use mathlib.Core.Path.{_≡_, refl, sym}
-use mathlib.Core.Bool.{Bool, true, false, _&&_}
+use mathlib.Core.Path.{_≡_, sym}
+use mathlib.Core.Bool.{Bool, true, _&&_}
 use native.Mathlib.Omega.{arith}
 use lib.Dec.{leb}
 use borrow.Author.Needs.{needs}
 use borrow.Author.Tests.{leb-true, le-leb}
-use Rattle.slices.proofs.SameLaws.{and-left, and-right, and-true}
+use Rattle.slices.proofs.SameLaws.{and-left, and-right, and-true, not-so}
 use Rattle.locate.proofs.has_room.Statement.{statement}
 use Rattle.locate.proofs.has_room.Tie as tie
-
-refuted : (t : Bool) → (t ≡ true → ⊥) → false ≡ t
-refuted true h = absurd (h refl)
-refuted false h = refl
 
 module _ (m first : ℕ) where
   abbrev room : Bool
@@ -28,16 +24,16 @@ module _ (m first : ℕ) where
   there l u = sym (and-true (leb 1 first) (leb (first + (m - 1)) 4294967295) (le-leb 1 first l) (le-leb (first + (m - 1)) 4294967295 u))
 
 returns : tie.Need-returns
-returns c = let a = c .before .args in refuted _ (λ h. omega (arith, c .if1 .taken, low (a .m) (a .first) h))
+returns c = let a = c .before .args in sym (not-so _ (λ h. omega (arith, c .if1 .taken, low (a .m) (a .first) h)))
 
 returns-2 : tie.Need-returns-2
-returns-2 c = let a = c .before .before .args in refuted _ (λ h. omega (arith, c .if2 .taken, high (a .m) (a .first) h))
+returns-2 c = let a = c .before .before .args in sym (not-so _ (λ h. omega (arith, c .if2 .taken, high (a .m) (a .first) h)))
 
 add-room : tie.Need-add-room
 add-room c = search needs
 
 returns-3 : tie.Need-returns-3
-returns-3 c = let a = c .before .before .before .args in refuted _ (λ h. omega (arith, c .if3 .taken, high (a .m) (a .first) h))
+returns-3 c = let a = c .before .before .before .args in sym (not-so _ (λ h. omega (arith, c .if3 .taken, high (a .m) (a .first) h)))
 
 returns-4 : tie.Need-returns-4
 returns-4 c = let a = c .before .before .before .args in there (a .m) (a .first) (omega arith) (omega arith)

@@ -1,16 +1,12 @@
 -- The new edition begins where there is room, the old one at one index only.
-use mathlib.Core.Path.{_≡_, refl, sym, _∙_}
-use mathlib.Core.Bool.{Bool, true, false}
+use mathlib.Core.Path.{sym, _∙_}
 use native.Mathlib.Omega.{arith}
 use borrow.Author.Needs.{needs}
 use borrow.Author.Tests.{eq-eqb}
+use Rattle.slices.proofs.SameLaws.{not-so}
 use Rattle.record.proofs.HeaderLaws.{first-two, first-one, first-other}
 use Rattle.locate.proofs.is_first.Statement.{statement}
 use Rattle.locate.proofs.is_first.Tie as tie
-
-refuted : (t : Bool) → (t ≡ true → ⊥) → false ≡ t
-refuted true h = absurd (h refl)
-refuted false h = refl
 
 gives-first-requires : tie.Need-gives-first-requires
 gives-first-requires c κs = search needs
@@ -26,7 +22,7 @@ returns c =
 returns-2 : tie.Need-returns-2
 returns-2 c =
     let a = c .before .before .before .args in
-    refuted _ (λ h. omega (arith, c .if2 .taken, first-one (a .shape) (a .first) h (sym (c .before .before .gives-first .ensures) ∙ c .before .if1 .left)))
+    sym (not-so _ (λ h. omega (arith, c .if2 .taken, first-one (a .shape) (a .first) h (sym (c .before .before .gives-first .ensures) ∙ c .before .if1 .left))))
 
 returns-3 : tie.Need-returns-3
 returns-3 c =
