@@ -6,7 +6,7 @@ use Rattle.example.specs.Waiting.{three, scrawl, waitingCluster}
 use Rattle.example.specs.Four.{four, evenCluster, evenTorn}
 use Rattle.example.specs.Visited.{blankedOne, tornOne, fetchedOne, twoMore, lastStored, lastCluster}
 use Rattle.example.specs.Computed.{Computed, WaitingComputed, EvenComputed}
-use Rattle.example.proofs.Opened.{opened}
+use Rattle.protocol.proofs.Opened.{opened}
 
 pub waiting-computed : WaitingComputed
 unfolding opened three payloadA noise scrawl waitingCluster

@@ -4,7 +4,7 @@ use Rattle.example.specs.Undamaged.{payloadA, payloadB, payloadC, noise}
 use Rattle.example.specs.Later.{later, laterFirst, laterSecond, laterSlots, longScrawl, laterCluster, otherFirsts, tornLater, laterTorn}
 use Rattle.example.specs.Misheaded.{misheaded, misheadedCluster}
 use Rattle.example.specs.LaterComputed.{LaterComputed}
-use Rattle.example.proofs.Opened.{opened}
+use Rattle.protocol.proofs.Opened.{opened}
 
 pub later-computed : LaterComputed
 unfolding opened payloadA payloadB payloadC noise later laterFirst laterSecond laterSlots longScrawl laterCluster otherFirsts tornLater laterTorn misheaded misheadedCluster

@@ -1,4 +1,3 @@
 -- What `demand3` cites of its example.
-mod Opened
 pub mod ComputedLaws
 pub mod LaterLaws

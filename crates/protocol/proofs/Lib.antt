@@ -32,3 +32,4 @@ pub mod StepCountLaws
 pub mod Reached
 pub mod StillLaws
 pub mod ReadyLaws
+pub mod Opened

@@ -1,24 +1,6 @@
 -- Every row of the three tables is computed, and what the cards of the second mean.
 use mathlib.Core.Path.{refl}
-use Rattle.search.specs.Search.{lowest, count, sum, oneIf, all, listed, joined}
-use Rattle.slices.specs.Parts.{part}
-use Rattle.slices.specs.Same.{same}
-use Rattle.checksum.specs.Checksum.{sumA, sumB, checksumOf}
-use Rattle.column.specs.Column.{digits, column, digitStep, valueFrom, valueOf}
-use Rattle.record.specs.Layout.{givesFirst, headerSize, sealed, firstColumn, headerBytes, recordBytes, blankRecord, padded, entryBytes, freshEntry}
-use Rattle.record.specs.Meaning.{isEpoch, firstIndex, isFirst, headerFirst, isHeader, readHeader, isGood, recordEpoch, readRecord, isIntact, entryEpoch, entryPayload, readEntry}
-use Rattle.image.specs.Refusal.{refuse, _else_}
-use Rattle.image.specs.Image.{index, imageSize, recordAt, entryAt, decodeUnder, firstIn, decodeImage}
-use Rattle.image.specs.View.{condition, epochOf, conditionAt, epochAt, isBlank, isProper, isLost, logLength, noGap, noneLost, rising, imageRefusal, viewOf, isSize, isReplica, isSlots, isEdition, namedRefusal, callRefusal, readRefusal}
-use Rattle.image.specs.Verdict.{verdictOf, verdictAt, isFresh}
-use Rattle.image.specs.Append.{lastEpoch, appendRefusal}
-use Rattle.image.specs.Read.{isWhole, hasPayload}
-use Rattle.image.specs.Cluster.{imageAt, imagePart, firstAt, decode}
-use Rattle.planner.specs.Setting.{settingOf, has, viewsOf}
-use Rattle.planner.specs.Rules.{majority, mayTruncate, isFaulty, isUsed, isTruncate, isWait, answers, agrees, have, dontHave, donor, rule, end, firstWaiting, sameFirsts, answer}
-use Rattle.planner.specs.Plan.{viewsIn, shapeRefusal, clusterRefusal, lentRefusal, planRefusal, keptByte, ruleByte, planByte, planBytes}
-use Rattle.protocol.specs.Call.{refusalOf}
-use Rattle.protocol.specs.CallResult.{readyResult, acceptedResult, callResult}
+use Rattle.protocol.proofs.Opened.{opened}
 use Rattle.starred.specs.Cards as cards
 use Rattle.starred.specs.Starred.{Starred}
 use Rattle.starred.specs.Sizes as sizes
@@ -28,7 +10,7 @@ use Rattle.starred.specs.Stale.{StalePlaces}
 use Rattle.starred.proofs.SeenLaws.{over, recordOf, entryOf, Seen}
 
 pub computed : Starred × Sizes × Seen × StalePlaces
-unfolding lowest count sum oneIf all listed joined part same sumA sumB checksumOf digits column digitStep valueFrom valueOf givesFirst headerSize sealed firstColumn headerBytes recordBytes blankRecord padded entryBytes freshEntry isEpoch firstIndex isFirst headerFirst isHeader readHeader isGood recordEpoch readRecord isIntact entryEpoch entryPayload readEntry refuse _else_ index imageSize recordAt entryAt decodeUnder firstIn decodeImage condition epochOf conditionAt epochAt isBlank isProper isLost logLength noGap noneLost rising imageRefusal viewOf isSize isReplica isSlots isEdition namedRefusal callRefusal readRefusal verdictOf verdictAt isFresh lastEpoch appendRefusal isWhole hasPayload imageAt imagePart firstAt decode settingOf has viewsOf majority mayTruncate isFaulty isUsed isTruncate isWait answers agrees have dontHave donor rule end firstWaiting sameFirsts answer viewsIn shapeRefusal clusterRefusal lentRefusal planRefusal keptByte ruleByte planByte planBytes refusalOf readyResult acceptedResult callResult cards.noise cards.scratch cards.whole cards.one cards.two cards.faultyOf cards.hasOf cards.lacksOf sizes.cards sizes.planned sizes.answers sizes.bytes stale.last stale.before stale.stale stale.planned over recordOf entryOf
+unfolding opened cards.noise cards.scratch cards.whole cards.one cards.two cards.faultyOf cards.hasOf cards.lacksOf sizes.cards sizes.planned sizes.answers sizes.bytes stale.last stale.before stale.stale stale.planned over recordOf entryOf
 computed = (starred, by-size, seen, stale-places)
   where
     starred : Starred
