@@ -7,6 +7,8 @@ mod clusters;
 mod images;
 mod pieces;
 
+pub use clusters::{Planned, UNPLANNED};
+
 use crate::model::{self, Refusal};
 use crate::program;
 use crate::side::{self, Side};

@@ -2,11 +2,11 @@
 
 #![deny(dead_code)]
 
-use harness::code::Code;
+use harness::code::{Code, Planned, UNPLANNED};
 use harness::generate::arbitrary::arbitrary_case_of;
 use harness::generate::damage::header_of;
 use harness::generate::history::agreed_case_of;
-use harness::generate::{some_first, some_shape_of, Case, Cluster};
+use harness::generate::{misdirected, some_first, some_shape_of, Case, Cluster};
 use harness::model::*;
 use harness::on_both_sides;
 use harness::property::case_rng;
@@ -78,21 +78,15 @@ fn formatted(on: Code, shape: Shape, first: u32) -> Result<(), u8> {
     format(on, image_len(shape), shape, 1, first)
 }
 
-type Planned = (Result<Answer, Refusal>, Vec<u8>, Vec<ReplicaRow>);
-
 fn planned(on: Code, cluster: &Cluster, leader: usize, present: u32) -> Planned {
-    let Shape { n, m, .. } = cluster.shape;
-    let (mut plan, mut rows) = (vec![77; m], vec![ReplicaRow::default(); n]);
-    let (bytes, shape) = (&cluster.bytes, cluster.shape);
-    let answer = on.plan(bytes, shape, leader, present, &mut plan, &mut rows);
-    (answer, plan, rows)
+    on.planned(&cluster.bytes, cluster.shape, leader, present)
 }
 
 /// The refusal that plan, step and run share; none of them changes anything.
 fn cluster_number(on: Code, cluster: &Cluster, leader: usize, present: u32) -> Option<u8> {
     let (answer, plan, rows) = planned(on, cluster, leader, present);
     let refusal = answer.err()?;
-    assert!(plan.iter().all(|&byte| byte == 77));
+    assert!(plan.iter().all(|&byte| byte == UNPLANNED));
     assert!(rows.iter().all(|&row| row == ReplicaRow::default()));
     let (shape, mut bytes) = (cluster.shape, cluster.bytes.clone());
     assert_eq!(on.step(&mut bytes, shape, leader, present), Err(refusal));
@@ -663,16 +657,9 @@ fn the_same_plan_and_stores_from_any_index_on(on: Code) {
     assert!(counts.iter().all(|&count| count > 100), "{counts:?}");
 }
 
-/// Why a damaged header is supposed to be a refused one. Three replicas, one slot, index 3: replicas 1 and
-/// 2, a majority, had stored the reading. The leader's entry is damaged into one that is intact for
-/// index 4, a misdirected write.
+/// Why a damaged header is supposed to be a refused one.
 fn a_header_damaged_into_a_good_one_loses_a_reading(on: Code) {
-    let mut cluster = Cluster::fresh_from(3, 1, 3);
-    for replica in [1, 2] {
-        cluster.put(replica, 1, 1, b"kept");
-    }
-    let misdirected = on.write_entry(2, 4, b"astray");
-    cluster.entry_mut(1, 1).copy_from_slice(&misdirected);
+    let mut cluster = misdirected();
     let (shape, record) = (cluster.shape, on.write_record(1, 3));
 
     // Under its own header the leader's copy is fetched.

@@ -2,7 +2,7 @@
 
 #![deny(dead_code)]
 
-use harness::code::Code;
+use harness::code::{Code, Planned};
 use harness::generate::Cluster;
 use harness::model::planner::Reply;
 use harness::model::*;
@@ -45,24 +45,8 @@ on_both_sides! {
     strict_columns,
 }
 
-/// Plans with buffers of the right length and answers all three results.
-fn planned(
-    on: Code,
-    cluster: &Cluster,
-    leader: usize,
-    present: u32,
-) -> (Result<Answer, Refusal>, Vec<u8>, Vec<ReplicaRow>) {
-    let mut bytes = vec![0xee; cluster.shape.m];
-    let mut rows = vec![ReplicaRow::default(); cluster.shape.n];
-    let answer = on.plan(
-        &cluster.bytes,
-        cluster.shape,
-        leader,
-        present,
-        &mut bytes,
-        &mut rows,
-    );
-    (answer, bytes, rows)
+fn planned(on: Code, cluster: &Cluster, leader: usize, present: u32) -> Planned {
+    on.planned(&cluster.bytes, cluster.shape, leader, present)
 }
 
 /// Reads replica 1 and answers length, epochs and verdicts.

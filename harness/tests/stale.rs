@@ -2,7 +2,7 @@
 
 #![deny(dead_code)]
 
-use harness::code::Code;
+use harness::code::{Code, Planned};
 use harness::generate::{agreed_case, arbitrary_case, Case, Cluster};
 use harness::model::*;
 use harness::on_both_sides;
@@ -118,14 +118,8 @@ fn without_stale(on: Code, case: &Case) -> (Cluster, Vec<(usize, usize)>) {
     (cluster, stale)
 }
 
-type Planned = (Result<Answer, Refusal>, Vec<u8>, Vec<ReplicaRow>);
-
 fn planned(on: Code, case: &Case, cluster: &[u8]) -> Planned {
-    let mut plan = vec![99; case.shape.m];
-    let mut rows = vec![ReplicaRow::default(); case.shape.n];
-    let (leader, present) = (case.leader, case.present);
-    let answer = on.plan(cluster, case.shape, leader, present, &mut plan, &mut rows);
-    (answer, plan, rows)
+    on.planned(cluster, case.shape, case.leader, case.present)
 }
 
 /// Every step until none makes a store, those apart that write an entry that was stale. One of another

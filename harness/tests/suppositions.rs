@@ -5,7 +5,7 @@
 #![deny(dead_code)]
 
 use harness::code::Code;
-use harness::generate::{Case, Cluster, Committed};
+use harness::generate::{misdirected, Case, Cluster, Committed};
 use harness::model::{apply, StoreKind};
 use harness::on_both_sides;
 use harness::property::claims::Start;
@@ -211,15 +211,9 @@ fn only_recovery_changes_the_cluster_once_it_has_begun(on: Code) {
         .is_err());
 }
 
-/// The slot has index 3. Beside the leader's record, which is as it was, stands an entry that is intact for
-/// index 4; replica 3 is away.
+/// Replica 3 is away.
 fn a_damaged_header_is_a_refused_one(on: Code) {
-    let mut cluster = Cluster::fresh_from(3, 1, 3);
-    for replica in [1, 2] {
-        cluster.put(replica, 1, 1, b"kept");
-    }
-    let entry = on.write_entry(2, 4, b"astray");
-    cluster.entry_mut(1, 1).copy_from_slice(&entry);
+    let mut cluster = misdirected();
     let committed = committed_at(3, 0b011);
     let harm_among = |cluster: &Cluster, present| {
         let case = Case {

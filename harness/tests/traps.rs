@@ -46,16 +46,7 @@ fn verdicts(on: Code, cluster: &Cluster, replica: usize) -> Result<Vec<u8>, u8> 
 }
 
 fn planned(on: Code, cluster: &Cluster, leader: usize, present: u32) -> (Answer, Vec<u8>) {
-    let mut bytes = vec![0; cluster.shape.m];
-    let mut rows = vec![ReplicaRow::default(); cluster.shape.n];
-    let answer = on.plan(
-        &cluster.bytes,
-        cluster.shape,
-        leader,
-        present,
-        &mut bytes,
-        &mut rows,
-    );
+    let (answer, bytes, _) = on.planned(&cluster.bytes, cluster.shape, leader, present);
     (answer.unwrap(), bytes)
 }
 

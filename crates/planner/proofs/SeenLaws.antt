@@ -172,13 +172,14 @@ module _ (Z : Shape) (present : ℕ) (b : Bytes) (c : ℕ) where
   unfolding viewsIn viewsOf viewOf settingOf
   refused-off e = rw (ne-eqb (imageRefusal (Z .m) (decode Z b c)) 0 e) (and-off (has present c))
 
-  pub seen-more : {readable r first len : ℕ} {firsts lengths conditions epochs seen-conditions seen-epochs conditions′ epochs′ : List ℕ}
+  -- f and l are what the code keeps of the view
+  pub seen-more : {readable r first len f l : ℕ} {firsts lengths conditions epochs seen-conditions seen-epochs conditions′ epochs′ : List ℕ}
       → Partly (Z .m) (viewsIn (settingOf Z 0 present) b) readable firsts lengths conditions epochs c → c < 7 → Z .m ≤ 64 → has present c ≡ true → imageRefusal (Z .m) (decode Z b c) ≡ 0
       → Seen (Z .m) (decode Z b c) first len seen-conditions seen-epochs → Copied c conditions seen-conditions conditions′ 64 → Copied c epochs seen-epochs epochs′ 64 → r ≡ inserted readable c
-      → Partly (Z .m) (viewsIn (settingOf Z 0 present) b) r (set firsts c first) (set lengths c len) conditions′ epochs′ (c + 1)
+      → f ≡ first → l ≡ len → Partly (Z .m) (viewsIn (settingOf Z 0 present) b) r (set firsts c f) (set lengths c l) conditions′ epochs′ (c + 1)
   unfolding viewsIn viewsOf viewOf settingOf conditionsOf
-  seen-more {readable} {r} {first} {len} {firsts} {lengths} {conditions} {epochs} {seen-conditions} {seen-epochs} p c7 m64 on ok s x y q =
-      rw q (partly-more c first len p c7 m64 (rw (on, eq-eqb _ _ ok) refl) (s .first-is) (s .length-is)
+  seen-more {readable} {r} {first} {len} {f} {l} {firsts} {lengths} {conditions} {epochs} {seen-conditions} {seen-epochs} p c7 m64 on ok s x y q fs ls =
+      rw (q, fs, ls) (partly-more c first len p c7 m64 (rw (on, eq-eqb _ _ ok) refl) (s .first-is) (s .length-is)
       (taken-at (Z .m) (λ k. conditionNumber (conditionAt (decode Z b c) k)) seen-conditions (s .conditions-are))
       (taken-at (Z .m) (epochAt (decode Z b c)) seen-epochs (s .epochs-are)) x y)
 

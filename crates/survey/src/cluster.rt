@@ -65,12 +65,10 @@ fn leader_refusal(readable: u32, n: usize, leading: usize) -> u8
 }
 
 // Refusal 21: the log of a readable replica begins at another index than the leader's. The leader counts from 0.
-fn firsts_refusal(survey: Survey, n: usize, leader: usize) -> u8
+fn firsts_refusal(readable: u32, firsts: &[u32; MAX_REPLICAS], n: usize, leader: usize) -> u8
     requires { ⌜ (n ≤ 7) × (leader < n) ⌝ }
-    ensures { λ r. ⌜ r ≡ refuse 21 (not (sameNumbers n leader (survey .readable) (survey .firsts))) ⌝ }
+    ensures { λ r. ⌜ r ≡ refuse 21 (not (sameNumbers n leader readable (now (firsts .entry)))) ⌝ }
 {
-    let readable = survey.readable;
-    let firsts = survey.firsts;
     let first = firsts[leader];
     let mut c: usize = 0;
     'replicas: while c < n {
@@ -118,6 +116,7 @@ pub fn view_cluster(cluster: &[u8], shape: Shape, leading: usize, present: u32) 
             survey,
         };
     }
-    let refusal = firsts_refusal(survey, n, leading - 1);
+    let firsts = survey.firsts;
+    let refusal = firsts_refusal(survey.readable, &firsts, n, leading - 1);
     ClusterView { refusal, survey }
 }

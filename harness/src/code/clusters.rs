@@ -4,7 +4,21 @@ use super::{accepted, Code};
 use crate::model::{Answer, Refusal, ReplicaRow, RunAnswer, RunEnd, Shape, StepAnswer, StoreKind};
 use crate::proved::clusters;
 
+/// What a plan answers, its bytes and its rows.
+pub type Planned = (Result<Answer, Refusal>, Vec<u8>, Vec<ReplicaRow>);
+
+/// What each byte of a plan is before the call.
+pub const UNPLANNED: u8 = 77;
+
 impl Code {
+    /// A plan, in buffers of the right length.
+    pub fn planned(&self, cluster: &[u8], shape: Shape, leader: usize, present: u32) -> Planned {
+        let mut plan = vec![UNPLANNED; shape.m];
+        let mut rows = vec![ReplicaRow::default(); shape.n];
+        let answer = self.plan(cluster, shape, leader, present, &mut plan, &mut rows);
+        (answer, plan, rows)
+    }
+
     pub fn plan(
         &self,
         cluster: &[u8],

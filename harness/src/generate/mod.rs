@@ -18,7 +18,7 @@ pub mod small;
 pub use arbitrary::arbitrary_case;
 pub use build::Cluster;
 pub use calls::{one_of_each, plan_call};
-pub use example::example_input;
+pub use example::{example_input, misdirected};
 pub use history::{agreed_case, AgreedCase, Committed};
 pub use images::{image_calls, ImageCalls};
 pub use noise::{noise_cluster, noise_image, noise_report_input, ImageCase};

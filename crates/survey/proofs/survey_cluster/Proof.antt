@@ -77,7 +77,7 @@ replicas-again-3 c =
       search needs,
       seen-more _ _ _ _ (old .replicas .inv .2) (omega arith) (slots-high _ (old .before .before .pre .1))
           (sym (d .before .before .before .before .contains .ensures) ∙ not-false _ (d .before .before .before .if2 .left)) (omega (arith, v .0)) (v .1 (omega arith))
-          (c .copy-slots .ensures .0) (c .copy-slots .ensures .1) (c .before .before .before .insert .ensures),
+          (c .copy-slots .ensures .0) (c .copy-slots .ensures .1) (c .before .before .before .insert .ensures) (omega arith) (omega arith),
     )
 
 returns : tie.Need-returns Inv-replicas μ-replicas

@@ -22,16 +22,16 @@ refused : {r : ℕ} (n leader readable c : ℕ) (firsts : List ℕ) → c < n �
 refused n leader readable c firsts l on f e = e ∙ other-first n leader readable firsts c l on f
 
 abbrev Inv-replicas : tie.InvT-replicas
-Inv-replicas n leader readable firsts first c₀ c = (c ≤ n) × SameBelow leader readable firsts c
+Inv-replicas readable firsts n leader first c₀ c = (c ≤ n) × SameBelow leader readable firsts c
 
 abbrev μ-replicas : tie.MeasureT-replicas
-μ-replicas n leader readable firsts first c₀ c = n - c
+μ-replicas readable firsts n leader first c₀ c = n - c
 
 mul-first : tie.Need-mul-first Inv-replicas μ-replicas
 mul-first c = search needs
 
-array-read-first : tie.Need-array-read-first Inv-replicas μ-replicas
-array-read-first c = search needs
+element-copy-out-first : tie.Need-element-copy-out-first Inv-replicas μ-replicas
+element-copy-out-first c = search needs
 
 replicas-holds : tie.Need-replicas-holds Inv-replicas μ-replicas
 replicas-holds c = (search needs, below-none _ _ _)
@@ -52,12 +52,12 @@ replicas-again c =
 mul-if2 : tie.Need-mul-if2 Inv-replicas μ-replicas
 mul-if2 c = search needs
 
-array-read-if2 : tie.Need-array-read-if2 Inv-replicas μ-replicas
-array-read-if2 c = search needs
+element-copy-out-if2 : tie.Need-element-copy-out-if2 Inv-replicas μ-replicas
+element-copy-out-if2 c = search needs
 
 returns : tie.Need-returns Inv-replicas μ-replicas
 returns c =
-    refused _ _ _ _ _ (c .before .before .before .replicas-test .taken) (tested _ _ (c .before .before .contains .ensures) (omega arith) (omega arith) (not-false _ (c .before .if1 .left))) (c .if2 .taken) (omega arith)
+    refused _ _ _ _ _ (c .before .before .before .before .replicas-test .taken) (tested _ _ (c .before .before .before .contains .ensures) (omega arith) (omega arith) (not-false _ (c .before .before .if1 .left))) (c .if2 .taken) (omega arith)
 
 add-c-2 : tie.Need-add-c-2 Inv-replicas μ-replicas
 add-c-2 c = search needs
@@ -66,7 +66,7 @@ replicas-less-2 : tie.Need-replicas-less-2 Inv-replicas μ-replicas
 replicas-less-2 c = search needs
 
 replicas-again-2 : tie.Need-replicas-again-2 Inv-replicas μ-replicas
-replicas-again-2 c = (search needs, below-same _ (c .before .before .before .before .replicas .inv .1) (c .if2 .left))
+replicas-again-2 c = (search needs, below-same _ (c .before .before .before .before .before .replicas .inv .1) (c .if2 .left))
 
 returns-2 : tie.Need-returns-2 Inv-replicas μ-replicas
 returns-2 c = omega (arith, below-all _ (c .before .replicas .inv .1) _ (c .before .replicas .inv .0) (c .replicas-test .left))
@@ -78,14 +78,14 @@ firsts-refusal-spec =
     Inv-replicas
     μ-replicas
     mul-first
-    array-read-first
+    element-copy-out-first
     replicas-holds
     contains-requires
     add-c
     replicas-less
     replicas-again
     mul-if2
-    array-read-if2
+    element-copy-out-if2
     returns
     add-c-2
     replicas-less-2

@@ -47,22 +47,25 @@ returns-2 c =
 
 sub-firsts-refusal : tie.Need-sub-firsts-refusal
 sub-firsts-refusal c =
-    let d = c .before .before in
+    let b = c .before .before in
+    let d = b .before .before in
     let z = sym (d .before .before .shape-refusal .ensures) ∙ d .before .if1 .left in
-    omega (arith, leader-within _ _ _ _ z _ _ _ _ _ (d .survey-cluster .ensures _) (asked _ _ _ (c .before .leader-refusal .ensures) (omega arith)) (omega arith) .0)
+    omega (arith, leader-within _ _ _ _ z _ _ _ _ _ (d .survey-cluster .ensures _) (asked _ _ _ (b .before .leader-refusal .ensures) (omega arith)) (omega arith) .0)
 
 firsts-refusal-requires : tie.Need-firsts-refusal-requires
 firsts-refusal-requires c κs =
-    let d = c .before .before in
+    let b = c .before .before in
+    let d = b .before .before in
     let z = sym (d .before .before .shape-refusal .ensures) ∙ d .before .if1 .left in
-    (size-high _ (shaped-size _ _ _ z), omega (arith, leader-within _ _ _ _ z _ _ _ _ _ (d .survey-cluster .ensures _) (asked _ _ _ (c .before .leader-refusal .ensures) (omega arith)) (omega arith) .1))
+    (size-high _ (shaped-size _ _ _ z), omega (arith, leader-within _ _ _ _ z _ _ _ _ _ (d .survey-cluster .ensures _) (asked _ _ _ (b .before .leader-refusal .ensures) (omega arith)) (omega arith) .1))
 
 returns-3 : tie.Need-returns-3
 returns-3 c =
-    let d = c .before .before .before in
+    let b = c .before .before .before in
+    let d = b .before .before in
     let z = sym (d .before .before .shape-refusal .ensures) ∙ d .before .if1 .left in (
-      cluster-firsts _ _ _ _ z _ _ _ _ _ (d .survey-cluster .ensures _) (asked _ _ _ (c .before .before .leader-refusal .ensures) (omega arith)) (omega arith) (led _ _ _ _ (c .firsts-refusal .ensures) (omega arith)),
-      λ e. cluster-survey _ _ _ _ z _ _ _ _ _ (d .survey-cluster .ensures _) (asked _ _ _ (c .before .before .leader-refusal .ensures) (omega arith)) (omega arith) (sym (led _ _ _ _ (c .firsts-refusal .ensures) (omega arith)) ∙ e),
+      cluster-firsts _ _ _ _ z _ _ _ _ _ (d .survey-cluster .ensures _) (asked _ _ _ (b .before .leader-refusal .ensures) (omega arith)) (omega arith) (led _ _ _ _ (c .firsts-refusal .ensures) (omega arith)),
+      λ e. cluster-survey _ _ _ _ z _ _ _ _ _ (d .survey-cluster .ensures _) (asked _ _ _ (b .before .leader-refusal .ensures) (omega arith)) (omega arith) (sym (led _ _ _ _ (c .firsts-refusal .ensures) (omega arith)) ∙ e),
     )
 
 pub view-cluster-spec : {M : Type 1} → statement M
