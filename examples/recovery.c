@@ -9,7 +9,7 @@
 
 enum { N = 5, M = 6, EDITION = 1, LEADER = 1 };
 
-static const rope_shape shape = {N, M, EDITION};
+static const rope_shape shape = {N, M, EDITION, 0};
 
 static uint8_t cluster[ROPE_CLUSTER_SIZE(N, M)];
 

@@ -93,7 +93,7 @@ fn write_logs(fleet: &mut Fleet) -> Result<(), Refusal> {
     println!(
         "Five replicas with {} slots each, {} bytes on each card. Replica {} leads.",
         fleet.geometry.slot_count(),
-        fleet.geometry.image_len(),
+        fleet.geometry.image_len(fleet.leader),
         fleet.leader.number()
     );
     let all = fleet.geometry.all_present();

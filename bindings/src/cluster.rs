@@ -23,7 +23,7 @@ pub enum PlanAction {
     Truncate,
     /// 5: a used slot behind that one, which goes with it.
     TruncatedAfter,
-    /// 10 + c: the entry is fetched from this replica.
+    /// 10 + c: the entry is fetched from this replica, which is no witness.
     Fetch(Replica),
 }
 
@@ -137,7 +137,7 @@ impl Plan {
 /// What a store wrote.
 #[derive(Clone, Copy, Debug, PartialEq, Eq, Hash)]
 pub enum StoreKind {
-    /// 1: one whole entry.
+    /// 1: one whole entry, never on a witness.
     Entry = 1,
     /// 2: one record.
     Record = 2,
@@ -193,7 +193,7 @@ pub enum StepAnswer {
         /// The lowest waiting slot, from 1.
         slot: usize,
     },
-    /// It made this store, which has to be on its card before the next step.
+    /// It made this store, which has to be on its card or its witness before the next step.
     Stored(Store),
 }
 
@@ -227,8 +227,9 @@ pub enum RunAnswer {
 ///
 /// - [`Refusal::BufferLength`]: the cluster is not [`Geometry::cluster_len`] bytes long.
 /// - [`Refusal::Present`]: the present set has a replica that this geometry does not have.
-/// - [`Refusal::Leader`]: the leader is not one of this geometry's, is not present, or its own image
-///   is refused; [`read`](crate::read) says why.
+/// - [`Refusal::Witnesses`]: a witness is none of this geometry's replicas.
+/// - [`Refusal::Leader`]: the leader is not one of this geometry's, is not present, is a witness, or its
+///   own image is refused; [`read`](crate::read) says why.
 /// - [`Refusal::FirstDiffers`]: another replica that is present and readable has a log that begins at
 ///   another index than the leader's.
 pub fn plan(
@@ -288,8 +289,8 @@ fn row_of(row: RawRow) -> ReplicaRow {
 ///
 /// # Errors
 ///
-/// [`Refusal::BufferLength`], [`Refusal::Present`], [`Refusal::Leader`] and [`Refusal::FirstDiffers`],
-/// each as for [`plan`].
+/// [`Refusal::BufferLength`], [`Refusal::Present`], [`Refusal::Witnesses`], [`Refusal::Leader`] and
+/// [`Refusal::FirstDiffers`], each as for [`plan`].
 pub fn step(
     cluster: &mut [u8],
     geometry: Geometry,
@@ -331,8 +332,8 @@ pub fn step(
 ///
 /// # Errors
 ///
-/// [`Refusal::BufferLength`], [`Refusal::Present`], [`Refusal::Leader`] and [`Refusal::FirstDiffers`],
-/// each as for [`plan`].
+/// [`Refusal::BufferLength`], [`Refusal::Present`], [`Refusal::Witnesses`], [`Refusal::Leader`] and
+/// [`Refusal::FirstDiffers`], each as for [`plan`].
 pub fn run(
     cluster: &mut [u8],
     geometry: Geometry,

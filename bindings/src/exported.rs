@@ -13,10 +13,12 @@ pub struct Shape {
     pub m: usize,
     /// The edition of the images.
     pub edition: usize,
+    /// The set of those replicas that are witnesses: bit c − 1 stands for replica c.
+    pub witnesses: u32,
 }
 
-// Three words, as the archive takes them.
-const _: () = assert!(size_of::<Shape>() == 3 * size_of::<usize>());
+// Three words and the set, padded to a fourth, as the archive takes them.
+const _: () = assert!(size_of::<Shape>() == 32);
 
 /// A row of the planner's table, as the archive lays it out.
 #[repr(C)]
@@ -68,6 +70,25 @@ extern "C" {
         at: *mut usize,
         size: *mut usize,
     );
+
+    pub fn rope_witness_append(
+        image: *mut u8,
+        len: usize,
+        shape: Shape,
+        replica: usize,
+        epoch: u32,
+        slot: *mut usize,
+    ) -> u8;
+    pub fn rope_witness_read(
+        image: *const u8,
+        len: usize,
+        shape: Shape,
+        replica: usize,
+        epochs: *mut u32,
+        epochs_len: usize,
+        length: *mut usize,
+        first: *mut u32,
+    ) -> u8;
 
     pub fn rope_plan(
         cluster: *const u8,

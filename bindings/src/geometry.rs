@@ -1,4 +1,4 @@
-//! The numbers that shape a cluster: its replicas, slots and edition; sets of replicas, epochs.
+//! The numbers that shape a cluster: its replicas, slots, edition and witnesses; sets of replicas, epochs.
 
 use std::fmt;
 use std::num::NonZeroU32;
@@ -25,17 +25,18 @@ impl Edition {
     }
 }
 
-/// How many replicas a cluster has, how many slots each of their images has, and the edition of them
-/// all.
+/// How many replicas a cluster has, how many slots each of their images has, the edition of them all,
+/// and which of the replicas are witnesses.
 #[derive(Clone, Copy, Debug, PartialEq, Eq, Hash)]
 pub struct Geometry {
     n: usize,
     m: usize,
     edition: Edition,
+    witnesses: ReplicaSet,
 }
 
 impl Geometry {
-    /// n replicas with m slots each, in edition 1: their logs begin at index 1.
+    /// n replicas with m slots each, in edition 1: their logs begin at index 1. All have cards.
     ///
     /// # Errors
     ///
@@ -55,9 +56,31 @@ impl Geometry {
     }
 
     fn judged(n: usize, m: usize, edition: Edition) -> Result<Geometry, Refusal> {
-        let geometry = Geometry { n, m, edition };
+        let geometry = Geometry {
+            n,
+            m,
+            edition,
+            witnesses: ReplicaSet::EMPTY,
+        };
         judge(geometry.shape(), 1)?;
         Ok(geometry)
+    }
+
+    /// The same with these replicas as its witnesses, which store records only; all others have cards.
+    ///
+    /// A replica that this geometry does not have adds nothing to the length of a cluster and matters
+    /// to no call about one image; the calls about a cluster refuse it by [`Refusal::Witnesses`].
+    ///
+    /// Two things to know before a cluster gets witnesses:
+    ///
+    /// - Two sets of as many witnesses give a cluster the same length. A wrong one is not refused by
+    ///   [`Refusal::BufferLength`]: it shows only as images that are unreadable, in the rows of a plan, or
+    ///   as [`Refusal::Leader`]. Nothing is written to such an image.
+    /// - A witness counts towards a majority as a card does. So a reading that a majority stored may stand
+    ///   on one card alone, and where the witnesses are the majority no copy of its payload may be left.
+    ///   Such a slot is not cut, and the recovery waits.
+    pub fn with_witnesses(self, witnesses: ReplicaSet) -> Geometry {
+        Geometry { witnesses, ..self }
     }
 
     /// n, the number of replicas.
@@ -75,12 +98,23 @@ impl Geometry {
         self.edition
     }
 
+    /// The set of witnesses.
+    pub fn witnesses(self) -> ReplicaSet {
+        self.witnesses
+    }
+
+    /// Whether the replica is a witness; otherwise it has a card.
+    pub fn is_witness(self, replica: Replica) -> bool {
+        self.witnesses.contains(replica)
+    }
+
     /// The numbers as [`pieces`](crate::pieces) take them.
     pub fn shape(self) -> Shape {
         Shape {
             n: self.n,
             m: self.m,
             edition: self.edition.number(),
+            witnesses: self.witnesses.word(),
         }
     }
 
@@ -92,14 +126,20 @@ impl Geometry {
         }
     }
 
-    /// The bytes of one image.
-    pub fn image_len(self) -> usize {
-        self.header_len() + (RECORD_LEN + ENTRY_LEN) * self.m
+    /// The bytes of the image of a replica. A witness has no entries.
+    ///
+    /// # Panics
+    ///
+    /// If the replica is not one of this geometry's.
+    pub fn image_len(self, replica: Replica) -> usize {
+        self.expect_replica(replica);
+        let entries = if self.is_witness(replica) { 0 } else { self.m };
+        self.header_len() + RECORD_LEN * self.m + ENTRY_LEN * entries
     }
 
     /// The bytes of a cluster: all its images end to end.
     pub fn cluster_len(self) -> usize {
-        self.n * self.image_len()
+        self.len_of_first(self.n)
     }
 
     /// The replica with this number, counted from 1.
@@ -128,12 +168,11 @@ impl Geometry {
     ///
     /// If the replica is not one of this geometry's.
     pub fn image_range(self, replica: Replica) -> Range<usize> {
-        assert!(replica.0 <= self.n, "{replica} of {} replicas", self.n);
-        let start = (replica.0 - 1) * self.image_len();
-        start..start + self.image_len()
+        self.expect_replica(replica);
+        self.len_of_first(replica.0 - 1)..self.len_of_first(replica.0)
     }
 
-    /// Where the record of a slot, counted from 1, stands in its image.
+    /// Where the record of a slot, counted from 1, stands in its image, a card's or a witness's.
     ///
     /// # Panics
     ///
@@ -144,7 +183,7 @@ impl Geometry {
         start..start + RECORD_LEN
     }
 
-    /// Where the entry of a slot, counted from 1, stands in its image.
+    /// Where the entry of a slot, counted from 1, stands in its image, which is a card's.
     ///
     /// # Panics
     ///
@@ -158,6 +197,18 @@ impl Geometry {
     /// A budget that no run uses up: 3 × n × m stores.
     pub fn enough_stores(self) -> u64 {
         3 * self.n as u64 * self.m as u64
+    }
+
+    /// The bytes of so many images, from replica 1 on.
+    fn len_of_first(self, replicas: usize) -> usize {
+        self.replicas()
+            .take(replicas)
+            .map(|replica| self.image_len(replica))
+            .sum()
+    }
+
+    fn expect_replica(self, replica: Replica) {
+        assert!(replica.0 <= self.n, "{replica} of {} replicas", self.n);
     }
 
     fn expect_slot(self, slot: usize) {
@@ -194,7 +245,7 @@ impl fmt::Display for Replica {
     }
 }
 
-/// A set of replicas, such as those that are present. It is collected from replicas.
+/// A set of replicas, such as those that are present or the witnesses. It is collected from replicas.
 #[derive(Clone, Copy, Debug, Default, PartialEq, Eq, Hash)]
 pub struct ReplicaSet {
     word: u32,

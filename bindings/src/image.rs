@@ -1,4 +1,4 @@
-//! One image: made fresh, appended to, read, and asked for payloads.
+//! One image: made fresh, a card's or a witness's; a card's appended to, read, and asked for payloads.
 
 use std::fmt;
 
@@ -7,7 +7,7 @@ use crate::geometry::{Epoch, Geometry, Replica};
 use crate::refusal::{accepted, Refusal};
 use crate::MAX_SLOTS;
 
-/// What a reader says of a slot.
+/// What a reader says of a slot of a card.
 #[derive(Clone, Copy, Debug, PartialEq, Eq, Hash)]
 #[non_exhaustive]
 pub enum Verdict {
@@ -72,7 +72,7 @@ impl fmt::Display for Verdict {
     }
 }
 
-/// What a reader says of one slot.
+/// What a reader says of one slot of a card.
 #[derive(Clone, Copy, Debug, PartialEq, Eq)]
 pub struct SlotState {
     /// The slot's epoch; none if it is unused.
@@ -81,7 +81,7 @@ pub struct SlotState {
     pub verdict: Verdict,
 }
 
-/// What a reader says of an image.
+/// What a reader says of a card's image.
 #[derive(Clone, Copy, Debug, PartialEq, Eq)]
 pub struct Log {
     length: usize,
@@ -103,8 +103,7 @@ impl Log {
 
     /// The index of a slot, counted from 1; none if there is no such slot.
     pub fn index(&self, slot: usize) -> Option<u32> {
-        let behind = slot.checked_sub(1).filter(|&at| at < self.slots)?;
-        Some(self.first + behind as u32)
+        index_of(self.first, self.slots, slot)
     }
 
     /// The state of every slot, used or not; slot k stands at k − 1.
@@ -118,8 +117,14 @@ impl Log {
     }
 }
 
-/// Writes a fresh image over the whole buffer: a header, blank records, entries of spaces. In either
-/// edition its log begins at index 1.
+/// The index of a slot, counted from 1, of a log with so many slots; none if there is no such slot.
+pub(crate) fn index_of(first: u32, slots: usize, slot: usize) -> Option<u32> {
+    let behind = slot.checked_sub(1).filter(|&at| at < slots)?;
+    Some(first + behind as u32)
+}
+
+/// Writes the fresh image that this replica has over the whole buffer: a header, blank records and, if
+/// it is no witness, entries of spaces. In either edition its log begins at index 1.
 ///
 /// # Errors
 ///
@@ -149,7 +154,8 @@ pub fn format_from(
     accepted("rope_format", number)
 }
 
-/// Writes the entry and then the record of the first unused slot, and answers that slot, from 1.
+/// Writes the entry and then the record of the first unused slot of a card, and answers that slot, from
+/// 1. A witness has [`witness_append`](crate::witness_append).
 ///
 /// # Errors
 ///
@@ -183,12 +189,14 @@ pub fn append(
     Ok(slot)
 }
 
-/// Reads an image: the epoch and the verdict of each slot, and the index that the log begins at.
+/// Reads the image of a card: the epoch and the verdict of each slot, and the index that the log begins
+/// at. A witness has [`witness_read`](crate::witness_read).
 ///
 /// # Errors
 ///
 /// - [`Refusal::ReplicaCount`]: the replica is not one of this geometry's.
-/// - [`Refusal::BufferLength`]: the image is not [`Geometry::image_len`] bytes long.
+/// - [`Refusal::BufferLength`]: the replica is a witness, or the image is not [`Geometry::image_len`]
+///   bytes long.
 /// - [`Refusal::Header`]: the header is not one that is written for this replica and geometry, or its
 ///   first index is one that [`Refusal::FirstIndex`] refuses.
 /// - [`Refusal::UsedAfterBlank`]: a used slot stands after a blank record.
@@ -227,8 +235,8 @@ pub fn read(image: &[u8], geometry: Geometry, replica: Replica) -> Result<Log, R
     })
 }
 
-/// Whether a slot, counted from 1, has a payload. An empty payload is one; a slot that the image does
-/// not have has none.
+/// Whether a slot of a card, counted from 1, has a payload. An empty payload is one; a slot that the
+/// image does not have has none.
 ///
 /// # Errors
 ///
@@ -250,7 +258,8 @@ pub fn has_payload(
 }
 
 /// The payload of a slot, counted from 1, as a part of the image: the empty part if the slot is not
-/// whole or the image is refused. [`has_payload`] tells these and an empty payload apart.
+/// whole, the image is refused or the replica is a witness. [`has_payload`] tells these and an empty
+/// payload apart.
 pub fn payload(image: &[u8], geometry: Geometry, replica: Replica, slot: usize) -> &[u8] {
     let (mut at, mut size) = (0, 0);
     // SAFETY: the slice and the numbers are lent for the call, and none overlaps another.

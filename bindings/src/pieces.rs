@@ -97,8 +97,8 @@ pub fn read_column(column: &[u8]) -> Result<Column, Refusal> {
     }
 }
 
-/// Writes the header of a replica of a cluster of this shape. Only in edition 2 the first index stands
-/// in it.
+/// Writes the header of a replica of a cluster of this shape: it begins with `rope`, that of a witness
+/// with `wits`. Only in edition 2 the first index stands in it.
 ///
 /// # Errors
 ///

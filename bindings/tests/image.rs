@@ -113,7 +113,11 @@ fn headers_of_another_first_index() {
 fn format_is_refused() {
     let geometry = Geometry::new(3, 2).unwrap();
     let replica = geometry.replica(1).unwrap();
-    for length in [0, geometry.image_len() - 1, geometry.image_len() + 1] {
+    for length in [
+        0,
+        geometry.image_len(replica) - 1,
+        geometry.image_len(replica) + 1,
+    ] {
         let mut image = vec![7; length];
         assert_eq!(
             format(&mut image, geometry, replica),
@@ -122,7 +126,7 @@ fn format_is_refused() {
         assert!(image.iter().all(|&byte| byte == 7));
     }
     let other = Geometry::new(7, 2).unwrap().replica(7).unwrap();
-    let mut image = vec![7; geometry.image_len()];
+    let mut image = vec![7; geometry.image_len(replica)];
     assert_eq!(
         format(&mut image, geometry, other),
         Err(Refusal::ReplicaCount)
@@ -144,7 +148,7 @@ fn first_indexes() {
         (two, 0),
         (two, u32::MAX),
     ] {
-        for length in [0, geometry.image_len()] {
+        for length in [0, geometry.image_len(replica)] {
             let mut image = vec![7; length];
             let refused = format_from(&mut image, geometry, replica, first);
             assert_eq!(refused, Err(Refusal::FirstIndex));
@@ -154,12 +158,12 @@ fn first_indexes() {
         }
     }
     for (geometry, first) in [(one, 1), (two, 1), (two, u32::MAX - 1)] {
-        let mut image = vec![7; geometry.image_len()];
+        let mut image = vec![7; geometry.image_len(replica)];
         format_from(&mut image, geometry, replica, first).unwrap();
         let log = read(&image, geometry, replica).unwrap();
         assert_eq!((log.first(), log.index(2)), (first, Some(first + 1)));
         if first == 1 {
-            let mut plain = vec![8; geometry.image_len()];
+            let mut plain = vec![8; geometry.image_len(replica)];
             format(&mut plain, geometry, replica).unwrap();
             assert_eq!(plain, image);
         }

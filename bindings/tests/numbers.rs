@@ -2,10 +2,10 @@
 
 mod common;
 
-use common::{epoch, Cluster};
+use common::{epoch, set_of, Cluster};
 use ropelog::pieces::Shape;
 use ropelog::{Edition, Epoch, Geometry, PlanAction, Refusal, ReplicaSet, StoreKind, Verdict};
-use ropelog::{HEADER_LEN, HEADER_LEN_2, MAX_REPLICAS, MIN_REPLICAS};
+use ropelog::{ENTRY_LEN, HEADER_LEN, HEADER_LEN_2, MAX_REPLICAS, MIN_REPLICAS, RECORD_LEN};
 
 #[test]
 fn geometries() {
@@ -42,36 +42,77 @@ fn editions() {
         Shape {
             n: 5,
             m: 4,
-            edition
+            edition,
+            witnesses: 0
         }
     );
     assert_eq!(one.shape().edition, 1);
     assert_eq!((one.header_len(), two.header_len()), (28, 39));
     assert_eq!((HEADER_LEN, HEADER_LEN_2), (28, 39));
-    // The archive takes it as three words.
-    assert_eq!(std::mem::size_of::<Shape>(), 24);
+    // The archive takes it as three words and the set, padded to a fourth.
+    assert_eq!(std::mem::size_of::<Shape>(), 32);
     assert_eq!(std::mem::align_of::<Shape>(), 8);
 }
 
 #[test]
 fn sizes() {
-    let small = Geometry::new(3, 1).unwrap();
-    assert_eq!(small.image_len(), 302);
-    let large = Geometry::new(7, 64).unwrap();
-    assert_eq!(large.image_len(), 17_564);
-    assert_eq!(large.cluster_len(), 7 * 17_564);
-    assert_eq!(large.enough_stores(), 3 * 7 * 64);
-    assert_eq!(Geometry::edition_2(3, 1).unwrap().image_len(), 313);
-    let large = Geometry::edition_2(7, 64).unwrap();
-    assert_eq!(large.image_len(), 17_575);
-    assert_eq!(large.cluster_len(), 7 * 17_575);
-    assert_eq!(large.enough_stores(), 3 * 7 * 64);
+    for (geometry, card, witness) in [
+        (Geometry::new(3, 1), 302, 62),
+        (Geometry::new(7, 64), 17_564, 2_204),
+        (Geometry::edition_2(3, 1), 313, 73),
+        (Geometry::edition_2(7, 64), 17_575, 2_215),
+    ] {
+        let geometry = geometry.unwrap();
+        let (n, m) = (geometry.replica_count(), geometry.slot_count());
+        assert_eq!(geometry.enough_stores(), 3 * (n * m) as u64);
+        assert_eq!(geometry.cluster_len(), n * card);
+        let two = geometry.replica(2).unwrap();
+        assert_eq!(geometry.image_len(two), card);
+        let geometry = geometry.with_witnesses(ReplicaSet::EMPTY.with(two));
+        assert_eq!(geometry.image_len(two), witness);
+        assert_eq!(geometry.image_len(geometry.replica(1).unwrap()), card);
+        assert_eq!(geometry.cluster_len(), (n - 1) * card + witness);
+        assert_eq!(geometry.enough_stores(), 3 * (n * m) as u64);
+    }
+}
+
+#[test]
+fn witnesses() {
+    let cards = Geometry::new(5, 4).unwrap();
+    assert_eq!(cards.witnesses(), ReplicaSet::EMPTY);
+    let set = set_of(cards, &[2, 5]);
+    let geometry = cards.with_witnesses(set);
+    assert_ne!(geometry, cards);
+    assert_eq!(geometry.witnesses(), set);
+    assert_eq!(geometry.shape().witnesses, 0b10010);
+    let named: Vec<usize> = geometry
+        .replicas()
+        .filter(|&replica| geometry.is_witness(replica))
+        .map(|replica| replica.number())
+        .collect();
+    assert_eq!(named, [2, 5]);
+    // Another set takes the place of the first.
+    assert_eq!(geometry.with_witnesses(ReplicaSet::EMPTY), cards);
+    // A replica of a larger cluster adds nothing to the length.
+    let beyond = Geometry::new(7, 4).unwrap().replica(6).unwrap();
+    let more = geometry.with_witnesses(set.with(beyond));
+    assert_ne!(more, geometry);
+    assert_eq!(more.cluster_len(), geometry.cluster_len());
+    assert_eq!(more.replica(6), Err(Refusal::ReplicaCount));
 }
 
 #[test]
 fn ranges_follow_each_other() {
-    for geometry in [Geometry::new(5, 4), Geometry::edition_2(5, 4)] {
-        assert_ranges_follow(geometry.unwrap());
+    for n in 3..=7 {
+        for geometry in [Geometry::new(n, 4), Geometry::edition_2(n, 4)] {
+            let geometry = geometry.unwrap();
+            for word in 0..1 << n {
+                let witnesses = geometry
+                    .replicas()
+                    .filter(|replica| word >> (replica.number() - 1) & 1 == 1);
+                assert_ranges_follow(geometry.with_witnesses(witnesses.collect()));
+            }
+        }
     }
 }
 
@@ -80,18 +121,25 @@ fn assert_ranges_follow(geometry: Geometry) {
     for replica in geometry.replicas() {
         let image = geometry.image_range(replica);
         assert_eq!(image.start, at);
+        assert_eq!(image.len(), geometry.image_len(replica));
         at = image.end;
     }
     assert_eq!(at, geometry.cluster_len());
+    let records = (1..=4).map(|slot| geometry.record_range(slot));
+    let entries = (1..=4).map(|slot| geometry.entry_range(slot));
     let mut at = geometry.header_len();
-    for range in (1..=4)
-        .map(|slot| geometry.record_range(slot))
-        .chain((1..=4).map(|slot| geometry.entry_range(slot)))
+    for (range, len) in records
+        .map(|range| (range, RECORD_LEN))
+        .chain(entries.map(|range| (range, ENTRY_LEN)))
     {
-        assert_eq!(range.start, at);
+        assert_eq!((range.start, range.len()), (at, len));
         at = range.end;
     }
-    assert_eq!(at, geometry.image_len());
+    for replica in geometry.replicas() {
+        let entries = if geometry.is_witness(replica) { 0 } else { 4 };
+        let left_out = ENTRY_LEN * (4 - entries);
+        assert_eq!(geometry.image_len(replica), at - left_out);
+    }
 }
 
 #[test]
@@ -105,6 +153,13 @@ fn no_range_past_the_last_slot() {
 fn no_range_of_another_cluster() {
     let replica = Geometry::new(5, 4).unwrap().replica(5).unwrap();
     Geometry::new(3, 4).unwrap().image_range(replica);
+}
+
+#[test]
+#[should_panic(expected = "replica 4 of 3 replicas")]
+fn no_length_of_another_cluster() {
+    let replica = Geometry::new(5, 4).unwrap().replica(4).unwrap();
+    Geometry::new(3, 4).unwrap().image_len(replica);
 }
 
 #[test]
@@ -148,7 +203,7 @@ fn epochs() {
 
 #[test]
 fn refusals_have_their_numbers() {
-    for (refusal, number) in Refusal::ALL.into_iter().zip((1..=14).chain(20..=21)) {
+    for (refusal, number) in Refusal::ALL.into_iter().zip((1..=14).chain(20..=22)) {
         assert_eq!(refusal.number(), number);
         assert_eq!(Refusal::from_number(number), Some(refusal));
         let text = refusal.to_string();
@@ -157,7 +212,7 @@ fn refusals_have_their_numbers() {
             "{text}"
         );
     }
-    for number in [0, 15, 19, 22, 255] {
+    for number in [0, 15, 19, 23, 255] {
         assert_eq!(Refusal::from_number(number), None);
     }
     assert_eq!(

@@ -61,6 +61,41 @@ fn shape_of(edition: usize) -> Shape {
         n: 5,
         m: 64,
         edition,
+        witnesses: 0,
+    }
+}
+
+/// The header of a witness begins with another word, and neither is the other's.
+#[test]
+fn headers_of_witnesses() {
+    for (edition, len, rest) in [
+        (1, HEADER_LEN, "  1  2  5 64"),
+        (2, HEADER_LEN_2, "  2  2  5 64          7"),
+    ] {
+        let cards = shape_of(edition);
+        let first = if edition == 1 { 1 } else { 7 };
+        for witnesses in [0b10, 0b11010, u32::MAX] {
+            let shape = Shape { witnesses, ..cards };
+            let mut header = vec![b'#'; len];
+            write_header(&mut header, shape, 2, first).unwrap();
+            let text = format!("wits{rest}");
+            assert_eq!(&header[..text.len()], text.as_bytes());
+            let sum = format!("{:>11}\n", checksum(text.as_bytes()));
+            assert_eq!(&header[text.len()..], sum.as_bytes());
+            assert_eq!(judge_header(&header, shape, 2), Header::Good { first });
+            assert_eq!(judge_header(&header, cards, 2), Header::Other);
+            write_header(&mut header, cards, 2, first).unwrap();
+            assert_eq!(&header[..4], b"rope");
+            assert_eq!(judge_header(&header, shape, 2), Header::Other);
+        }
+        // The bits of others make no witness of it.
+        let shape = Shape {
+            witnesses: !0b10,
+            ..cards
+        };
+        let mut header = vec![b'#'; len];
+        write_header(&mut header, shape, 2, first).unwrap();
+        assert_eq!(judge_header(&header, cards, 2), Header::Good { first });
     }
 }
 

@@ -2,7 +2,9 @@
 
 use std::fmt;
 
-/// Something a call is given: bytes, or a number of some width.
+use crate::model::Shape;
+
+/// Bytes that a call is given, or a number of some width.
 pub enum Field<'a> {
     Bytes(&'a mut Vec<u8>),
     Word(&'a mut u32),
@@ -10,17 +12,43 @@ pub enum Field<'a> {
     Long(&'a mut u64),
 }
 
-macro_rules! field_from {
+/// What stands under a name in a call: a field, or a shape, which is four of them.
+enum Given<'a> {
+    Field(Field<'a>),
+    Shape(&'a mut Shape),
+}
+
+macro_rules! given_from {
     ($($type:ty => $case:ident),*) => {
-        $(impl<'a> From<&'a mut $type> for Field<'a> {
-            fn from(field: &'a mut $type) -> Field<'a> {
-                Field::$case(field)
+        $(impl<'a> From<&'a mut $type> for Given<'a> {
+            fn from(field: &'a mut $type) -> Given<'a> {
+                Given::Field(Field::$case(field))
             }
         })*
     };
 }
 
-field_from!(Vec<u8> => Bytes, u32 => Word, usize => Size, u64 => Long);
+given_from!(Vec<u8> => Bytes, u32 => Word, usize => Size, u64 => Long);
+
+impl<'a> From<&'a mut Shape> for Given<'a> {
+    fn from(shape: &'a mut Shape) -> Given<'a> {
+        Given::Shape(shape)
+    }
+}
+
+impl<'a> Given<'a> {
+    fn fields(self, name: &'static str) -> Vec<(&'static str, Field<'a>)> {
+        match self {
+            Given::Field(field) => vec![(name, field)],
+            Given::Shape(shape) => vec![
+                ("n", Field::Size(&mut shape.n)),
+                ("m", Field::Size(&mut shape.m)),
+                ("edition", Field::Size(&mut shape.edition)),
+                ("witnesses", Field::Word(&mut shape.witnesses)),
+            ],
+        }
+    }
+}
 
 /// Says the calls once: the enum, their names, and their fields by name.
 macro_rules! calls {
@@ -41,12 +69,18 @@ macro_rules! calls {
                 }
             }
 
-            pub fn fields(&mut self) -> Vec<(&'static str, Field<'_>)> {
+            fn given(&mut self) -> Vec<(&'static str, Given<'_>)> {
                 match self {
                     $(Call::$name { $($field),* } => {
-                        vec![$((stringify!($field), Field::from($field))),*]
+                        vec![$((stringify!($field), Given::from($field))),*]
                     }),*
                 }
+            }
+
+            /// Everything that is given, a shape by its numbers.
+            pub fn fields(&mut self) -> Vec<(&'static str, Field<'_>)> {
+                let given = self.given().into_iter();
+                given.flat_map(|(name, given)| given.fields(name)).collect()
             }
         }
     };
@@ -56,64 +90,33 @@ calls! {
     Checksum { bytes: Vec<u8> }
     WriteNumber { width: usize, number: u64 }
     ReadColumn { column: Vec<u8> }
-    WriteHeader {
-        length: usize,
-        n: usize,
-        m: usize,
-        edition: usize,
-        replica: usize,
-        first: u32,
-    }
-    JudgeHeader { header: Vec<u8>, n: usize, m: usize, edition: usize, replica: usize }
+    WriteHeader { length: usize, shape: Shape, replica: usize, first: u32 }
+    JudgeHeader { header: Vec<u8>, shape: Shape, replica: usize }
     WriteRecord { length: usize, epoch: u32, index: u32 }
     WriteBlankRecord { length: usize }
     JudgeRecord { record: Vec<u8>, index: u32 }
     WriteEntry { length: usize, epoch: u32, index: u32, payload: Vec<u8> }
     WriteFreshEntry { length: usize }
     JudgeEntry { entry: Vec<u8>, index: u32 }
-    Format { length: usize, n: usize, m: usize, edition: usize, replica: usize, first: u32 }
-    Append {
-        n: usize,
-        m: usize,
-        edition: usize,
-        replica: usize,
-        epoch: u32,
-        payload: Vec<u8>,
-        image: Vec<u8>,
-    }
+    Format { length: usize, shape: Shape, replica: usize, first: u32 }
+    Append { shape: Shape, replica: usize, epoch: u32, payload: Vec<u8>, image: Vec<u8> }
     /// Of the lent epochs and verdicts only their numbers are given.
-    Read {
-        n: usize,
-        m: usize,
-        edition: usize,
-        replica: usize,
-        epochs: usize,
-        verdicts: usize,
-        image: Vec<u8>,
-    }
-    HasPayload { n: usize, m: usize, edition: usize, replica: usize, slot: usize, image: Vec<u8> }
-    Payload { n: usize, m: usize, edition: usize, replica: usize, slot: usize, image: Vec<u8> }
+    Read { shape: Shape, replica: usize, epochs: usize, verdicts: usize, image: Vec<u8> }
+    HasPayload { shape: Shape, replica: usize, slot: usize, image: Vec<u8> }
+    Payload { shape: Shape, replica: usize, slot: usize, image: Vec<u8> }
+    WitnessAppend { shape: Shape, replica: usize, epoch: u32, image: Vec<u8> }
+    WitnessRead { shape: Shape, replica: usize, epochs: usize, image: Vec<u8> }
     /// The plan that is lent has so many slots, and the table so many rows.
     Plan {
-        n: usize,
-        m: usize,
-        edition: usize,
+        shape: Shape,
         leader: usize,
         present: u32,
         slots: usize,
         rows: usize,
         cluster: Vec<u8>,
     }
-    Step { n: usize, m: usize, edition: usize, leader: usize, present: u32, cluster: Vec<u8> }
-    Run {
-        n: usize,
-        m: usize,
-        edition: usize,
-        leader: usize,
-        present: u32,
-        budget: u64,
-        cluster: Vec<u8>,
-    }
+    Step { shape: Shape, leader: usize, present: u32, cluster: Vec<u8> }
+    Run { shape: Shape, leader: usize, present: u32, budget: u64, cluster: Vec<u8> }
 }
 
 impl Field<'_> {
@@ -138,13 +141,15 @@ impl Field<'_> {
     }
 }
 
-impl fmt::Display for Field<'_> {
+/// As an expression of Rust.
+impl fmt::Display for Given<'_> {
     fn fmt(&self, f: &mut fmt::Formatter) -> fmt::Result {
         match self {
-            Field::Bytes(bytes) => write!(f, "{}", bytes_text(bytes)),
-            Field::Word(number) => write!(f, "{number}"),
-            Field::Size(number) => write!(f, "{number}"),
-            Field::Long(number) => write!(f, "{number}"),
+            Given::Field(Field::Bytes(bytes)) => write!(f, "{}", bytes_text(bytes)),
+            Given::Field(Field::Word(number)) => write!(f, "{number}"),
+            Given::Field(Field::Size(number)) => write!(f, "{number}"),
+            Given::Field(Field::Long(number)) => write!(f, "{number}"),
+            Given::Shape(shape) => write!(f, "harness::model::{shape:?}"),
         }
     }
 }
@@ -183,8 +188,8 @@ fn string_text(bytes: &[u8]) -> Option<String> {
 impl fmt::Display for Call {
     fn fmt(&self, f: &mut fmt::Formatter) -> fmt::Result {
         writeln!(f, "Call::{} {{", self.name())?;
-        for (name, field) in self.clone().fields() {
-            writeln!(f, "    {name}: {field},")?;
+        for (name, given) in self.clone().given() {
+            writeln!(f, "    {name}: {given},")?;
         }
         write!(f, "}}")
     }
@@ -202,5 +207,19 @@ mod tests {
         let text = "[&b\"ab\"[..], &[0u8; 30][..], &b\"c\"[..], &[32u8; 24][..]].concat()";
         assert_eq!(bytes_text(&long), text);
         assert_eq!(bytes_text(&[7; 24]), "[&[7u8; 24][..]].concat()");
+    }
+
+    #[test]
+    fn a_shape_is_four_numbers_and_is_shown_as_one() {
+        let mut call = Call::JudgeHeader {
+            header: Vec::new(),
+            shape: Shape::edition_2(3, 5).with_witnesses(4),
+            replica: 1,
+        };
+        let names: Vec<&str> = call.fields().into_iter().map(|field| field.0).collect();
+        let numbers = ["n", "m", "edition", "witnesses"];
+        assert_eq!(names, [&["header"][..], &numbers, &["replica"]].concat());
+        let shape = "harness::model::Shape { n: 3, m: 5, edition: 2, witnesses: 4 }";
+        assert!(call.to_string().contains(&format!("    shape: {shape},\n")));
     }
 }

@@ -7,7 +7,7 @@ mod clusters;
 mod images;
 mod pieces;
 
-pub use clusters::{Planned, UNPLANNED};
+pub use clusters::{Planned, Stores};
 
 use crate::model::{self, Refusal};
 use crate::program;
@@ -41,7 +41,7 @@ impl Code {
 }
 
 /// The refusals of calls. 14 is the printing program's.
-const REFUSALS: [Refusal; 15] = [
+const REFUSALS: [Refusal; 16] = [
     Refusal::SlotCount,
     Refusal::ReplicaCount,
     Refusal::BufferLength,
@@ -57,6 +57,7 @@ const REFUSALS: [Refusal; 15] = [
     Refusal::LentLength,
     Refusal::FirstIndex,
     Refusal::FirstDiffers,
+    Refusal::Witnesses,
 ];
 
 /// What a call about an image or a cluster answers with this number.

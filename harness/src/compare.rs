@@ -56,6 +56,7 @@ fn snake_case(name: &str) -> String {
 #[cfg(test)]
 mod tests {
     use super::*;
+    use crate::model::Shape;
 
     #[test]
     fn a_difference_is_told() {
@@ -98,9 +99,7 @@ mod tests {
         };
         let call = Call::Format {
             length: 10,
-            n: 3,
-            m: 1,
-            edition: 1,
+            shape: Shape::edition_1(3, 1),
             replica: 1,
             first: 1,
         };

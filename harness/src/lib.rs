@@ -21,3 +21,4 @@ pub mod proved;
 pub mod samples;
 pub mod side;
 pub mod tally;
+pub mod witnessed;

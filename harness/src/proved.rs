@@ -21,6 +21,7 @@ impl From<Shape> for exported::Shape {
             n: shape.n,
             m: shape.m,
             edition: shape.edition,
+            witnesses: shape.witnesses,
         }
     }
 }

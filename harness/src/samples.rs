@@ -1,11 +1,13 @@
-//! Small clusters to look at: inputs of the printing program, each with what it prints.
+//! Small clusters to look at: inputs of the printing program, each with what it prints, and a cluster with
+//! a witness, which the printing program does not know, with its plan in the same columns.
 
 use std::fs;
 use std::io;
 use std::path::Path;
 
-use crate::generate::Cluster;
-use crate::model::{self, Shape};
+use crate::code::{Code, MODEL};
+use crate::generate::{Case, Cluster};
+use crate::model::{self, Answer, Shape};
 
 /// An input of the printing program.
 pub struct Sample {
@@ -17,6 +19,38 @@ impl Sample {
     /// What the printing program prints for it.
     pub fn plan(&self) -> Vec<u8> {
         model::report(&self.input)
+    }
+}
+
+/// A cluster alone, with the numbers that a call names beside it.
+pub struct ClusterSample {
+    pub name: &'static str,
+    pub case: Case,
+}
+
+impl ClusterSample {
+    /// The plan as the printing program would print it. Only a plan that is not refused is shown.
+    pub fn plan(&self, code: Code) -> String {
+        let &Case {
+            shape,
+            leader,
+            present,
+            ref cluster,
+        } = &self.case;
+        let (answer, plan, _) = code.planned(cluster, shape, leader, present);
+        let (status, number) = match answer.expect("it is planned") {
+            Answer::Ready(length) => (0, length),
+            Answer::Waiting(slot) => (1, slot),
+        };
+        let parts = Cluster::of_bytes(shape, cluster.clone());
+        let log = code.judge_image(parts.image(leader), shape, leader);
+        let log = log.expect("the leader is readable");
+        let mut text = format!("{:>4}{leader:>4}{status:>4}{number:>4}\n", shape.n);
+        for slot in 1..=log.length {
+            let (epoch, byte) = (log.epoch(slot), plan[slot - 1]);
+            text += &format!("{slot:>4}{epoch:>11}{byte:>4}\n");
+        }
+        text
     }
 }
 
@@ -44,20 +78,31 @@ pub fn samples() -> Vec<Sample> {
     ]
 }
 
-/// Writes NAME.in and NAME.plan for each sample into a folder, which is made if it is not there.
+/// Writes NAME.in, or NAME.cluster, and NAME.plan for each sample into a folder, which is made if it is not
+/// there.
 pub fn write_samples(folder: &Path) -> io::Result<()> {
     fs::create_dir_all(folder)?;
+    let write = |name: &str, ending: &str, bytes: &[u8]| {
+        fs::write(folder.join(format!("{name}.{ending}")), bytes)
+    };
     for sample in samples() {
-        fs::write(folder.join(format!("{}.in", sample.name)), &sample.input)?;
-        fs::write(folder.join(format!("{}.plan", sample.name)), sample.plan())?;
+        write(sample.name, "in", &sample.input)?;
+        write(sample.name, "plan", &sample.plan())?;
     }
-    Ok(())
+    let sample = witness();
+    write(sample.name, "cluster", &sample.case.cluster)?;
+    write(sample.name, "plan", sample.plan(MODEL).as_bytes())
 }
 
 /// n replicas of four slots that all hold the readings in epoch 1.
 fn agreeing(n: usize) -> Cluster {
-    let mut cluster = Cluster::fresh(n, 4);
-    for replica in 1..=n {
+    agreeing_of(Shape::edition_1(n, 4))
+}
+
+/// The same of this shape.
+fn agreeing_of(shape: Shape) -> Cluster {
+    let mut cluster = Cluster::of_shape(shape);
+    for replica in 1..=shape.n {
         for (at, reading) in READINGS.iter().enumerate() {
             cluster.put(replica, at + 1, 1, reading);
         }
@@ -191,4 +236,26 @@ fn unreadable_follower() -> Sample {
     spoil_entry(&mut cluster, 1, 1);
     cluster.header_mut(2)[0] = b'#';
     sample("unreadable-follower", cluster, &[1, 2, 3])
+}
+
+/// Two cards and a witness, replica 3. The leader's second entry is spoilt, and comes from replica 2. A
+/// fourth reading was stored by the leader and the witness, a majority, and its entry is spoilt too: replica
+/// 2 never had it, but the witness's record keeps it from being cut, so it waits.
+pub fn witness() -> ClusterSample {
+    let shape = Shape::edition_1(3, 4).with_witnesses(0b100);
+    let mut cluster = agreeing_of(shape);
+    for replica in [1, 3] {
+        cluster.put(replica, 4, 1, b"metre 1219, strand loose");
+    }
+    spoil_entry(&mut cluster, 1, 2);
+    spoil_entry(&mut cluster, 1, 4);
+    ClusterSample {
+        name: "witness",
+        case: Case {
+            shape,
+            leader: 1,
+            present: 0b111,
+            cluster: cluster.bytes,
+        },
+    }
 }

@@ -35,6 +35,9 @@ pub struct Side {
     pub read: Read,
     pub has_payload: fn(&[u8], Shape, usize, usize, &mut u8) -> u8,
     pub payload: fn(&[u8], Shape, usize, usize, &mut usize, &mut usize),
+    /// Of a witness: the epoch.
+    pub witness_append: fn(&mut [u8], Shape, usize, u32, &mut usize) -> u8,
+    pub witness_read: WitnessRead,
     /// The cluster, the shape, the leader and the present word, as in every call about a cluster.
     pub plan: Plan,
     pub step: Step,
@@ -43,6 +46,7 @@ pub struct Side {
 
 pub type Append = fn(&mut [u8], Shape, usize, u32, &[u8], &mut usize) -> u8;
 pub type Read = fn(&[u8], Shape, usize, &mut [u32], &mut [u8], &mut usize, &mut u32) -> u8;
+pub type WitnessRead = fn(&[u8], Shape, usize, &mut [u32], &mut usize, &mut u32) -> u8;
 pub type Plan =
     fn(&[u8], Shape, usize, u32, &mut [u8], &mut [ReplicaRow], &mut u8, &mut usize) -> u8;
 pub type Step = fn(&mut [u8], Shape, usize, u32, &mut u8, &mut usize, &mut usize, &mut u8) -> u8;
@@ -65,6 +69,8 @@ pub const PROVED: Side = Side {
     read: images::read,
     has_payload: images::has_payload,
     payload: images::payload,
+    witness_append: images::witness_append,
+    witness_read: images::witness_read,
     plan: clusters::plan,
     step: clusters::step,
     run: clusters::run,

@@ -4,7 +4,7 @@
 use harness::call::Call;
 use harness::comparisons::clusters::{self, compare_plan, compare_recovery};
 use harness::comparisons::ENOUGH;
-use harness::generate::{recovery_case_of, Case, Cluster, Rng};
+use harness::generate::{recovery_case_of, some_witnesses, Case, Cluster, Rng};
 use harness::model::{Shape, LAST_INDEX, MAX_REPLICAS, MAX_SLOTS, MIN_REPLICAS};
 use harness::property::case_rng;
 use harness::tally::Tally;
@@ -24,10 +24,18 @@ fn plans_of_every_slot_count() {
     let mut rng = Rng::new(13);
     for m in 1..=MAX_SLOTS {
         for n in MIN_REPLICAS..=MAX_REPLICAS {
-            // Every other cluster is of edition 2 and ends with the last index.
+            // Every other cluster is of edition 2 and ends with the last index; every other has witnesses
+            // behind the leader and the replica behind it, whoever leads.
+            let witnesses = match m / 2 % 2 {
+                0 => 0,
+                _ => ((1 << n) - 1) ^ (1 << (m % n)) ^ (1 << ((m + 1) % n)),
+            };
             let mut cluster = match (m + n) % 2 {
-                0 => Cluster::fresh(n, m),
-                _ => Cluster::fresh_from(n, m, LAST_INDEX - (m as u32 - 1)),
+                0 => Cluster::of_shape(Shape::edition_1(n, m).with_witnesses(witnesses)),
+                _ => {
+                    let shape = Shape::edition_2(n, m).with_witnesses(witnesses);
+                    Cluster::of_firsts(shape, &vec![LAST_INDEX - (m as u32 - 1); n])
+                }
             };
             for replica in 1..=n {
                 for slot in 1..=m {
@@ -94,7 +102,13 @@ fn recoveries_of_every_slot_count() {
             for edition in [1, 2] {
                 let number = 1000 * edition + 100 * n + m;
                 let mut rng = case_rng(15, number as u64);
-                let case = recovery_case_of(&mut rng, Shape { n, m, edition });
+                let shape = Shape {
+                    n,
+                    m,
+                    edition,
+                    witnesses: some_witnesses(&mut rng, n),
+                };
+                let case = recovery_case_of(&mut rng, shape);
                 compare_recovery(&mut rng, &case, &mut tally);
             }
         }

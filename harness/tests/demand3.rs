@@ -3,9 +3,10 @@
 #![deny(dead_code)]
 
 use harness::code::{Code, MODEL, PROVED};
-use harness::model::{image_offset, record_offset, RECORD_LEN};
+use harness::model::{image_offset, record_offset, Shape, RECORD_LEN};
 use harness::on_both_sides;
 use harness::property::{check_agreed, check_arbitrary, check_images, check_reports};
+use harness::proved::clusters::ReplicaRow;
 use harness::side::{self, Side};
 
 on_both_sides! {
@@ -28,6 +29,13 @@ fn clusters_whose_logs_agreed(on: Code) {
         coverage.elsewhere,
         coverage.first_differs,
         coverage.last_index,
+        coverage.with_witnesses,
+        coverage.wrong_set,
+        coverage.kept_by_witnesses,
+        coverage.led_by_witness,
+        coverage.witnessed,
+        coverage.bad_witnesses,
+        coverage.witnesses_written,
         coverage.fetched,
         coverage.out_of_reach,
         coverage.records_lost,
@@ -50,12 +58,20 @@ fn arbitrary_clusters(on: Code) {
         coverage.truncated,
         coverage.first_differs,
         coverage.last_index,
+        coverage.with_witnesses,
+        coverage.kept_by_witnesses,
+        coverage.led_by_witness,
+        coverage.bad_witnesses,
+        coverage.witnesses_written,
         coverage.torn,
         coverage.cut,
         coverage.refused_calls,
         coverage.spent,
     ] {
         assert!(count >= 50, "{coverage}");
+    }
+    for count in [coverage.wrong_set, coverage.stray_witness] {
+        assert!(count >= 10, "{coverage}");
     }
 }
 
@@ -68,6 +84,13 @@ fn images_of_any_bytes(on: Code) {
     for number in 0..=10 {
         assert!(coverage.append[number] >= 5, "{coverage:?}");
     }
+    for number in [0, 1, 2, 3, 4, 5, 6, 7, 13] {
+        assert!(coverage.witness_read[number] >= 5, "{coverage:?}");
+    }
+    for number in [0, 1, 2, 3, 4, 5, 6, 7, 8, 10] {
+        assert!(coverage.witness_append[number] >= 5, "{coverage:?}");
+    }
+    assert_eq!(coverage.witness_append[9], 0, "{coverage:?}");
     assert!(
         coverage.verdicts.iter().all(|&count| count >= 50),
         "{coverage:?}"
@@ -145,7 +168,67 @@ fn a_step_that_forgets_the_first_index_is_found() {
         },
         ..side::PROVED
     });
-    assert!(found.ends_with("a step made another store"), "{found}");
+    // It shows in a step, or in a run that is compared with its steps.
+    let told = ["a step made another store", "a run is not its steps"];
+    assert!(told.iter().any(|told| found.ends_with(told)), "{found}");
+}
+
+/// Every record of a witness, by where it begins in the cluster.
+fn witness_records(shape: Shape) -> Vec<usize> {
+    let mut records = Vec::new();
+    for replica in (1..=shape.n).filter(|&replica| shape.is_witness(replica)) {
+        let image = image_offset(shape, replica);
+        records.extend((1..=shape.m).map(|slot| image + record_offset(shape, slot)));
+    }
+    records
+}
+
+/// A planner that takes a witness's have-faulty for a don't-have.
+#[test]
+fn a_planner_that_asks_no_witness_is_found() {
+    let found = found(Side {
+        plan: |cluster, shape, leader, present, plan, rows, status, number| {
+            let planned = side::PROVED.plan;
+            let answer = planned(cluster, shape, leader, present, plan, rows, status, number);
+            if answer != 0 {
+                return answer;
+            }
+            let mut copy = cluster.to_vec();
+            for at in witness_records(shape) {
+                (side::PROVED.write_blank_record)(&mut copy[at..at + RECORD_LEN]);
+            }
+            let mut ignored = vec![ReplicaRow::default(); shape.n];
+            let rows = &mut ignored;
+            planned(&copy, shape, leader, present, plan, rows, status, number)
+        },
+        ..side::PROVED
+    });
+    assert!(found.contains("but the full run ends"), "{found}");
+}
+
+/// A run that makes the bad records of a witness blank.
+#[test]
+fn a_run_that_mends_a_witness_is_found() {
+    let found = found(Side {
+        run: |cluster, shape, leader, present, budget, status, stores, slot| {
+            let run = side::PROVED.run;
+            let answer = run(
+                cluster, shape, leader, present, budget, status, stores, slot,
+            );
+            if (answer, *status) == (0, 0) {
+                for at in witness_records(shape) {
+                    let record = &mut cluster[at..at + RECORD_LEN];
+                    if record[RECORD_LEN - 1] != b'\n' {
+                        (side::PROVED.write_blank_record)(record);
+                    }
+                }
+            }
+            answer
+        },
+        ..side::PROVED
+    });
+    let told = ["a run is not its steps", "of replica"];
+    assert!(told.iter().any(|told| found.contains(told)), "{found}");
 }
 
 #[test]

@@ -2,11 +2,11 @@
 
 #![deny(dead_code)]
 
-use harness::code::{Code, Planned, UNPLANNED};
+use harness::code::{Code, Planned, Stores};
 use harness::generate::arbitrary::arbitrary_case_of;
 use harness::generate::damage::header_of;
 use harness::generate::history::agreed_case_of;
-use harness::generate::{misdirected, some_first, some_shape_of, Case, Cluster};
+use harness::generate::{misdirected, some_first, some_shape_of, some_witnesses, Case, Cluster};
 use harness::model::*;
 use harness::on_both_sides;
 use harness::property::case_rng;
@@ -75,7 +75,7 @@ fn format(on: Code, length: usize, shape: Shape, replica: usize, first: u32) -> 
 
 /// The same in a buffer of the right length.
 fn formatted(on: Code, shape: Shape, first: u32) -> Result<(), u8> {
-    format(on, image_len(shape), shape, 1, first)
+    format(on, card_len(shape), shape, 1, first)
 }
 
 fn planned(on: Code, cluster: &Cluster, leader: usize, present: u32) -> Planned {
@@ -84,41 +84,18 @@ fn planned(on: Code, cluster: &Cluster, leader: usize, present: u32) -> Planned 
 
 /// The refusal that plan, step and run share; none of them changes anything.
 fn cluster_number(on: Code, cluster: &Cluster, leader: usize, present: u32) -> Option<u8> {
-    let (answer, plan, rows) = planned(on, cluster, leader, present);
-    let refusal = answer.err()?;
-    assert!(plan.iter().all(|&byte| byte == UNPLANNED));
-    assert!(rows.iter().all(|&row| row == ReplicaRow::default()));
-    let (shape, mut bytes) = (cluster.shape, cluster.bytes.clone());
-    assert_eq!(on.step(&mut bytes, shape, leader, present), Err(refusal));
-    assert_eq!(on.run(&mut bytes, shape, leader, present, 9), Err(refusal));
-    assert_eq!(bytes, cluster.bytes);
-    Some(refusal.number())
+    on.refused_by(&cluster.bytes, cluster.shape, leader, present)
 }
 
-type Stores = (Vec<(usize, usize, StoreKind)>, Result<StepAnswer, Refusal>);
-
-/// Steps until none makes a store: replica, slot and kind of each, and the last answer.
+/// Steps until none makes a store.
 fn stores(on: Code, case: &Case, cluster: &mut [u8]) -> Stores {
-    let mut made = Vec::new();
-    loop {
-        assert!(made.len() <= 3 * case.shape.n * case.shape.m);
-        let answer = on.step(cluster, case.shape, case.leader, case.present);
-        let Ok(StepAnswer::Store {
-            replica,
-            slot,
-            kind,
-        }) = answer
-        else {
-            return (made, answer);
-        };
-        made.push((replica, slot, kind));
-    }
+    on.stores(cluster, case.shape, case.leader, case.present)
 }
 
 fn lengths_of_edition_2(on: Code) {
     for (m, length) in [(1, 313), (2, 587), (64, 17_575)] {
         let shape = Shape::edition_2(7, m);
-        assert_eq!(image_len(shape), length);
+        assert_eq!(card_len(shape), length);
         assert_eq!(format(on, length, shape, 7, 5), Ok(()));
         assert_eq!(format(on, length - 1, shape, 7, 5), Err(3));
         assert_eq!(format(on, length + 1, shape, 7, 5), Err(3));
@@ -139,7 +116,7 @@ fn header_bytes_of_edition_2(on: Code) {
 
 /// A fresh image and one append in epoch 1 of replica 2 of 3, with 2 slots.
 fn card(on: Code, shape: Shape, first: u32) -> Vec<u8> {
-    let mut image = vec![0; image_len(shape)];
+    let mut image = vec![0; card_len(shape)];
     on.fresh_image(&mut image, shape, 2, first).unwrap();
     let slot = on.append(&mut image, shape, 2, 1, b"metre 1204, wire broken");
     assert_eq!(slot, Ok(1));
@@ -189,7 +166,7 @@ fn refusal_20_in_its_three_ways(on: Code) {
 }
 
 fn refusal_20_comes_after_2_and_before_3(on: Code) {
-    let length = image_len(Shape::edition_2(3, 2));
+    let length = card_len(Shape::edition_2(3, 2));
     for wrong in [0, LAST_INDEX] {
         assert_eq!(format(on, 0, Shape::edition_2(2, 65), 9, wrong), Err(1));
         assert_eq!(format(on, 0, Shape::edition_2(8, 2), 1, wrong), Err(2));
@@ -311,7 +288,7 @@ fn a_padded_image_of_the_other_edition_is_4(on: Code) {
     let (one, two) = (Cluster::fresh(3, 2), Cluster::fresh_from(3, 2, 1));
     for (from, to) in [(&one, &two), (&two, &one)] {
         let mut image = from.image(1).to_vec();
-        image.resize(image_len(to.shape), b' ');
+        image.resize(card_len(to.shape), b' ');
         assert_eq!(read(on, &image, to.shape, 1), Err(4));
     }
 }
@@ -601,7 +578,11 @@ fn moved(case: &Case, first: u32) -> Cluster {
         first - 1,
     );
     let Shape { n, m, .. } = case.shape;
-    let mut two = Cluster::fresh_from(n, m, first);
+    let shape = Shape {
+        edition: 2,
+        ..case.shape
+    };
+    let mut two = Cluster::of_firsts(shape, &vec![first; n]);
     for replica in 1..=n {
         if judge_header(&one.image(replica)[..HEADER_LEN], one.shape, replica).is_none() {
             two.header_mut(replica)[0] = b'#';
@@ -609,6 +590,9 @@ fn moved(case: &Case, first: u32) -> Cluster {
         for slot in 1..=m {
             let record = moved_record(one.record(replica, slot), by);
             two.record_mut(replica, slot).copy_from_slice(&record);
+            if shape.is_witness(replica) {
+                continue;
+            }
             let entry = moved_entry(one.entry(replica, slot), by);
             two.entry_mut(replica, slot).copy_from_slice(&entry);
         }
@@ -622,11 +606,14 @@ fn the_same_plan_and_stores_from_any_index_on(on: Code) {
     let (mut ready, mut waiting, mut refused) = (0, 0, 0);
     for number in 0..6_000 {
         let mut rng = case_rng(41, number);
-        let shape = some_shape_of(&mut rng, 1);
+        let cards = some_shape_of(&mut rng, 1);
+        let shape = cards.with_witnesses(some_witnesses(&mut rng, cards.n));
         let case = match number % 2 {
             0 => arbitrary_case_of(&mut rng, shape),
             _ => agreed_case_of(&mut rng, shape).case,
         };
+        // It may name a wrong set of witnesses.
+        let shape = case.shape;
         let edition_2 = Shape {
             edition: 2,
             ..shape
@@ -635,9 +622,10 @@ fn the_same_plan_and_stores_from_any_index_on(on: Code) {
         let mut one = Cluster::of_bytes(shape, case.cluster.clone());
         let mut two = moved(&case, first);
         for replica in 1..=shape.n {
-            let expected = read(on, one.image(replica), shape, replica);
-            let expected = expected.map(|read| (read.0, first, read.2, read.3));
-            assert_eq!(read(on, two.image(replica), edition_2, replica), expected);
+            let log = on.judge_image(one.image(replica), shape, replica);
+            let expected = log.map(|log| Log { first, ..log });
+            let log = on.judge_image(two.image(replica), edition_2, replica);
+            assert_eq!(log, expected);
         }
         let (leader, present) = (case.leader, case.present);
         let plan = planned(on, &one, leader, present);

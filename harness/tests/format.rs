@@ -1,4 +1,4 @@
-//! The cards that docs/FORMAT.md shows byte by byte are those that are written.
+//! The images that docs/FORMAT.md shows byte by byte are those that are written.
 
 #![deny(dead_code)]
 
@@ -6,12 +6,15 @@ use std::fs;
 use std::path::{Path, PathBuf};
 
 use harness::code::Code;
-use harness::model::{entry_offset, image_len, record_offset, Shape, MAX_SLOTS, RECORD_LEN};
+use harness::model::{
+    card_len, entry_offset, image_len, record_offset, Shape, MAX_SLOTS, RECORD_LEN,
+};
 use harness::on_both_sides;
 
 on_both_sides! {
     the_cards_are_written,
     the_cards_are_read,
+    the_witness_is_written_and_read,
     every_checksum_is_of_the_bytes_that_are_named,
 }
 
@@ -36,6 +39,12 @@ const LATER: Card = Card {
     block: "```later-card\n",
     shape: Shape::edition_2(3, M),
     first: 1205,
+};
+
+const WITNESS: Card = Card {
+    block: "```witness\n",
+    shape: Shape::edition_1(3, M).with_witnesses(1 << (REPLICA - 1)),
+    first: 1,
 };
 
 fn repository() -> PathBuf {
@@ -92,7 +101,7 @@ impl Card {
             assert_eq!(part.at, end, "{}", part.meaning);
             end += part.bytes.len();
         }
-        assert_eq!(end, image_len(self.shape));
+        assert_eq!(end, image_len(self.shape, REPLICA));
         parts
     }
 
@@ -106,7 +115,7 @@ impl Card {
 
 fn the_cards_are_written(on: Code) {
     for card in [CARD, LATER] {
-        let mut image = vec![0; image_len(card.shape)];
+        let mut image = vec![0; card_len(card.shape)];
         on.fresh_image(&mut image, card.shape, REPLICA, card.first)
             .unwrap();
         let slot = on.append(&mut image, card.shape, REPLICA, 1, PAYLOAD);
@@ -129,9 +138,21 @@ fn the_cards_are_read(on: Code) {
     }
 }
 
-/// "checksum of bytes 0 to 15" is what it says.
+fn the_witness_is_written_and_read(on: Code) {
+    let shape = WITNESS.shape;
+    let mut image = vec![0; image_len(shape, REPLICA)];
+    on.fresh_image(&mut image, shape, REPLICA, WITNESS.first)
+        .unwrap();
+    let slot = on.witness_append(&mut image, shape, REPLICA, 1);
+    assert_eq!((slot, &image), (Ok(1), &WITNESS.bytes()));
+    let mut epochs = [9; M];
+    let read = on.witness_read(&image, shape, REPLICA, &mut epochs);
+    assert_eq!((read, epochs), (Ok((1, WITNESS.first)), [1, 0]));
+}
+
+/// "checksum of bytes 0 to 15" is what it says: of the header, of a record, and of an entry if there is one.
 fn every_checksum_is_of_the_bytes_that_are_named(on: Code) {
-    for card in [CARD, LATER] {
+    for (card, sealed) in [(CARD, 3), (LATER, 3), (WITNESS, 2)] {
         let (bytes, mut found) = (card.bytes(), 0);
         for part in card.parts() {
             let Some(range) = part.meaning.strip_prefix("checksum of bytes ") else {
@@ -145,7 +166,7 @@ fn every_checksum_is_of_the_bytes_that_are_named(on: Code) {
             assert_eq!(part.at, last + 1, "{range}");
             found += 1;
         }
-        assert_eq!(found, 3);
+        assert_eq!(found, sealed);
     }
 }
 

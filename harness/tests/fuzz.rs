@@ -6,9 +6,19 @@ use harness::call::Call;
 use harness::compare::test_text;
 use harness::fuzz::{fuzz, Difference};
 use harness::generate::{one_of_each, Rng};
-use harness::model::{cluster_len, image_len, record_offset, Shape, RECORD_LEN};
+use harness::model::{
+    card_len, cluster_len, image_offset, record_offset, witness_len, Shape, RECORD_LEN,
+};
 use harness::proved::Written;
 use harness::side::{Side, MODEL, PROVED};
+
+/// The smallest shapes that calls are found in, and the one of all zeros.
+const SMALLEST: Shape = Shape::edition_1(3, 1);
+const SMALLEST_2: Shape = Shape::edition_2(3, 1);
+const ZEROS: Shape = Shape {
+    edition: 0,
+    ..Shape::edition_1(0, 0)
+};
 
 /// What is found of a wrong side, long before the time is over.
 fn found(wrong: Side) -> Difference {
@@ -123,9 +133,7 @@ fn an_ambiguous_slot_is_called_corrupt() {
     });
     assert_eq!(found.told, "Read: verdicts[0] is 3, not 4");
     let Call::Read {
-        n: 3,
-        m: 1,
-        edition: 1,
+        shape: SMALLEST,
         replica: 1,
         epochs: 1,
         verdicts: 1,
@@ -135,7 +143,7 @@ fn an_ambiguous_slot_is_called_corrupt() {
         panic!("{found:?}");
     };
     // Only the header and the record are there.
-    assert_eq!(image.len(), image_len(Shape::edition_1(3, 1)));
+    assert_eq!(image.len(), card_len(SMALLEST));
     assert!(image[62..].iter().all(|&byte| byte == 0));
 }
 
@@ -155,16 +163,10 @@ fn a_slot_after_the_truncation_is_truncated() {
         ..PROVED
     });
     assert_eq!(found.told, "Plan: plan[1] is 4, not 5");
-    let Call::Plan {
-        n: 3,
-        m: 2,
-        edition: 1,
-        rows: 3,
-        ..
-    } = found.call
-    else {
+    let Call::Plan { shape, rows: 3, .. } = found.call else {
         panic!("{found:?}");
     };
+    assert_eq!(shape, Shape::edition_1(3, 2));
 }
 
 /// Of the third of four replicas or more, so that it takes a table of four rows.
@@ -182,9 +184,7 @@ fn a_row_has_another_epoch() {
     });
     assert!(found.told.starts_with("Plan: rows[2] is "), "{found:?}");
     let Call::Plan {
-        n: 4,
-        m: 2,
-        edition: 1,
+        shape,
         slots: 2,
         rows: 4,
         ref cluster,
@@ -193,7 +193,8 @@ fn a_row_has_another_epoch() {
     else {
         panic!("{found:?}");
     };
-    assert_eq!(cluster.len(), cluster_len(Shape::edition_1(4, 2)));
+    assert_eq!(shape, Shape::edition_1(4, 2));
+    assert_eq!(cluster.len(), cluster_len(shape));
 }
 
 #[test]
@@ -210,9 +211,7 @@ fn a_refused_plan_changes_a_row() {
     });
     assert!(found.told.starts_with("Plan: rows[0] is "), "{found:?}");
     let Call::Plan {
-        n: 3,
-        m: 1,
-        edition: 1,
+        shape: SMALLEST,
         rows: 1,
         ..
     } = found.call
@@ -234,9 +233,7 @@ fn a_row_behind_the_table_is_written() {
         ..PROVED
     });
     let expected = Call::Plan {
-        n: 0,
-        m: 0,
-        edition: 0,
+        shape: ZEROS,
         leader: 0,
         present: 0,
         slots: 0,
@@ -259,9 +256,7 @@ fn a_run_of_no_budget_makes_a_store() {
         ..PROVED
     });
     let Call::Run {
-        n: 3,
-        m: 1,
-        edition: 1,
+        shape: SMALLEST,
         budget: 0,
         ref cluster,
         ..
@@ -269,7 +264,7 @@ fn a_run_of_no_budget_makes_a_store() {
     else {
         panic!("{found:?}");
     };
-    assert_eq!(cluster.len(), cluster_len(Shape::edition_1(3, 1)));
+    assert_eq!(cluster.len(), cluster_len(SMALLEST));
     let written = cluster.iter().filter(|&&byte| byte != 0 && byte != b' ');
     assert!(written.count() < 150, "{found:?}");
 }
@@ -287,9 +282,10 @@ fn a_step_of_seven_replicas_writes_outside() {
         ..PROVED
     });
     let expected = Call::Step {
-        n: 7,
-        m: 3,
-        edition: 0,
+        shape: Shape {
+            edition: 0,
+            ..Shape::edition_1(7, 3)
+        },
         leader: 0,
         present: 0,
         cluster: Vec::new(),
@@ -309,9 +305,7 @@ fn a_side_that_panics_is_found() {
     });
     let expected = Call::JudgeHeader {
         header: Vec::new(),
-        n: 0,
-        m: 0,
-        edition: 0,
+        shape: ZEROS,
         replica: 1000,
     };
     assert_eq!(found.call, expected);
@@ -330,9 +324,7 @@ fn a_first_index_is_not_handed_out() {
     });
     assert!(found.told.starts_with("Read: first is "), "{found:?}");
     let Call::Read {
-        n: 3,
-        m: 1,
-        edition: 1,
+        shape: SMALLEST,
         replica: 1,
         ..
     } = found.call
@@ -358,9 +350,7 @@ fn a_first_index_is_taken_for_1() {
     });
     assert!(found.told.starts_with("Append: image["), "{found:?}");
     let Call::Append {
-        n: 3,
-        m: 1,
-        edition: 2,
+        shape: SMALLEST_2,
         replica: 1,
         ref image,
         ..
@@ -368,7 +358,7 @@ fn a_first_index_is_taken_for_1() {
     else {
         panic!("{found:?}");
     };
-    assert_eq!(image.len(), image_len(Shape::edition_2(3, 1)));
+    assert_eq!(image.len(), card_len(SMALLEST_2));
 }
 
 #[test]
@@ -384,9 +374,7 @@ fn a_cluster_of_different_first_indexes_is_planned() {
     let told = "Plan: the answer is Refusal(0), not Refusal(21)";
     assert_eq!(found.told, told);
     let Call::Plan {
-        n: n @ 3..=4,
-        m: 1,
-        edition: 2,
+        shape,
         slots: 0,
         rows: 0,
         ref cluster,
@@ -395,5 +383,132 @@ fn a_cluster_of_different_first_indexes_is_planned() {
     else {
         panic!("{found:?}");
     };
-    assert_eq!(cluster.len(), cluster_len(Shape::edition_2(n, 1)));
+    assert_eq!(shape, SMALLEST_2);
+    assert_eq!(cluster.len(), cluster_len(shape));
+}
+
+/// The record of a witness has the number of its slot for its index.
+#[test]
+fn a_first_index_of_a_witness_is_taken_for_1() {
+    let found = found(Side {
+        witness_append: |image, shape, replica, epoch, slot| {
+            let answer = (PROVED.witness_append)(image, shape, replica, epoch, slot);
+            if answer == 0 {
+                let at = record_offset(shape, *slot);
+                let record = &mut image[at..at + RECORD_LEN];
+                (PROVED.write_record)(record, epoch, *slot as u32);
+            }
+            answer
+        },
+        ..PROVED
+    });
+    let told = &found.told;
+    assert!(told.starts_with("WitnessAppend: image["), "{found:?}");
+    let Call::WitnessAppend {
+        shape,
+        replica: 1,
+        ref image,
+        ..
+    } = found.call
+    else {
+        panic!("{found:?}");
+    };
+    assert_eq!(shape, SMALLEST_2.with_witnesses(1));
+    assert_eq!(image.len(), witness_len(shape));
+}
+
+#[test]
+fn a_witness_read_hands_out_no_length() {
+    let found = found(Side {
+        witness_read: |image, shape, replica, epochs, _, first| {
+            let mut used = 0;
+            (PROVED.witness_read)(image, shape, replica, epochs, &mut used, first)
+        },
+        ..PROVED
+    });
+    let told = &found.told;
+    assert!(told.starts_with("WitnessRead: used is "), "{found:?}");
+    let Call::WitnessRead {
+        shape,
+        replica: 1,
+        epochs: 1,
+        ..
+    } = found.call
+    else {
+        panic!("{found:?}");
+    };
+    assert_eq!(shape, SMALLEST.with_witnesses(1));
+}
+
+/// A witness's image is read as if it were a card's.
+#[test]
+fn a_call_for_cards_takes_a_witness() {
+    let found = found(Side {
+        read: |image, shape, replica, epochs, verdicts, used, first| {
+            let (read, cards) = (PROVED.read, shape.with_witnesses(0));
+            read(image, cards, replica, epochs, verdicts, used, first)
+        },
+        ..PROVED
+    });
+    let Call::Read { shape, replica, .. } = found.call else {
+        panic!("{found:?}");
+    };
+    assert!(found.told.ends_with(", not Refusal(3)"), "{found:?}");
+    assert!(shape.is_witness(replica), "{found:?}");
+}
+
+/// 22 comes only of a bit that stands for no replica.
+#[test]
+fn a_stray_witness_is_not_refused() {
+    let found = found(Side {
+        plan: |cluster, shape, leader, present, plan, rows, status, number| {
+            let known = 1u32
+                .checked_shl(shape.n as u32)
+                .unwrap_or(0)
+                .wrapping_sub(1);
+            let shape = shape.with_witnesses(shape.witnesses & known);
+            (PROVED.plan)(cluster, shape, leader, present, plan, rows, status, number)
+        },
+        ..PROVED
+    });
+    assert!(found.told.ends_with(", not Refusal(22)"), "{found:?}");
+    let Call::Plan { shape, .. } = found.call else {
+        panic!("{found:?}");
+    };
+    assert_eq!(shape, SMALLEST.with_witnesses(0b1000));
+}
+
+/// Every witness is taken for one that has no record. It shows in the smallest cluster with a witness.
+#[test]
+fn a_witness_says_dont_have() {
+    let found = found(Side {
+        plan: |cluster, shape, leader, present, plan, rows, status, number| {
+            let planned = PROVED.plan;
+            let answer = planned(cluster, shape, leader, present, plan, rows, status, number);
+            if answer != 0 {
+                return answer;
+            }
+            let mut copy = cluster.to_vec();
+            for replica in (1..=shape.n).filter(|&replica| shape.is_witness(replica)) {
+                for slot in 1..=shape.m {
+                    let at = image_offset(shape, replica) + record_offset(shape, slot);
+                    (PROVED.write_blank_record)(&mut copy[at..at + RECORD_LEN]);
+                }
+            }
+            let mut ignored = rows.to_vec();
+            let rows = &mut ignored;
+            planned(&copy, shape, leader, present, plan, rows, status, number)
+        },
+        ..PROVED
+    });
+    assert_eq!(found.told, "Plan: plan[0] is 4, not 3");
+    let Call::Plan {
+        shape, ref cluster, ..
+    } = found.call
+    else {
+        panic!("{found:?}");
+    };
+    assert_eq!((shape.n, shape.m, shape.edition), (3, 1, 1));
+    assert_eq!(shape.witnesses.count_ones(), 1, "{found:?}");
+    assert_eq!(cluster.len(), cluster_len(shape));
 }

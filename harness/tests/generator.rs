@@ -5,6 +5,7 @@ use harness::generate::{agreed_case, arbitrary_case, noise_cluster, noise_image,
 use harness::generate::{Case, Cluster};
 use harness::model::*;
 use harness::property::case_rng;
+use harness::witnessed::is_wrong_set;
 
 const CASES: u64 = 12_000;
 
@@ -44,7 +45,14 @@ fn the_same_seed_gives_the_same_cases() {
     assert_ne!(first, agreed_case(&mut case_rng(10, 0)).case);
 }
 
-/// Intact slots of one index and one epoch agree, and so does everything below them that both keep.
+/// Whether a slot has a payload; on a witness none has.
+fn has_payload(log: &Log, slot: usize) -> bool {
+    let verdict = log.verdicts.get(slot - 1);
+    verdict.is_some_and(|verdict| verdict.has_payload())
+}
+
+/// Intact slots of one index and one epoch agree, and so does everything below them that both keep; with a
+/// witness by their epochs alone.
 fn assert_agreed(case: &Case, logs: &[Result<Log, Refusal>]) {
     let cluster = parts(case);
     for (one, first) in logs.iter().enumerate() {
@@ -63,8 +71,7 @@ fn assert_agreed(case: &Case, logs: &[Result<Log, Refusal>]) {
                 for lower in first.first.max(second.first)..index {
                     assert_eq!(epoch_at(first, lower), epoch_at(second, lower));
                 }
-                let both = first.verdict(slot).has_payload() && second.verdict(other).has_payload();
-                if both {
+                if has_payload(first, slot) && has_payload(second, other) {
                     assert_eq!(cluster.entry(one + 1, slot), cluster.entry(two + 1, other));
                 }
             }
@@ -87,6 +94,58 @@ fn assert_held(agreed: &AgreedCase, logs: &[Result<Log, Refusal>]) {
         if let Ok(log) = &logs[agreed.case.leader - 1] {
             assert_eq!(slot_of(log, committed.index), Some(committed.slot));
         }
+    }
+}
+
+/// What came up of witnesses.
+#[derive(Debug, Default)]
+struct Witnesses {
+    /// Clusters by the number of witnesses.
+    clusters: [u64; 8],
+    /// Clusters with a wrong set of as many witnesses, and those that a witness leads.
+    wrong_set: u64,
+    leader: u64,
+    /// Witnesses that are read with a log, without one, with a bad record, or with a refused header.
+    used: u64,
+    empty: u64,
+    bad: u64,
+    header: u64,
+    /// Committed payloads of which the cards alone hold no majority.
+    committed: u64,
+}
+
+impl Witnesses {
+    fn count(&mut self, case: &Case, logs: &[Result<Log, Refusal>]) {
+        let shape = case.shape;
+        self.clusters[shape.witnesses.count_ones() as usize] += 1;
+        self.wrong_set += u64::from(is_wrong_set(&case.cluster, shape));
+        self.leader += u64::from(shape.is_witness(case.leader));
+        for (at, log) in logs.iter().enumerate() {
+            match log {
+                _ if !shape.is_witness(at + 1) => {}
+                Ok(log) if log.length == 0 => self.empty += 1,
+                Ok(_) => self.used += 1,
+                Err(Refusal::BothLost) => self.bad += 1,
+                Err(_) => self.header += 1,
+            }
+        }
+    }
+
+    fn count_committed(&mut self, agreed: &AgreedCase) {
+        let Shape { n, witnesses, .. } = agreed.case.shape;
+        for committed in &agreed.committed {
+            let cards = committed.holders & !witnesses;
+            self.committed += u64::from(cards.count_ones() as usize <= n / 2);
+        }
+    }
+
+    /// Every kind of cluster that any generator makes.
+    fn each_is_met(&self) {
+        let [none, one, ..] = self.clusters;
+        assert!(none > CASES / 3 && one > CASES / 5, "{self:?}");
+        assert!(self.clusters.iter().all(|&count| count > 5), "{self:?}");
+        let counts = [self.leader, self.used, self.empty, self.bad, self.header];
+        assert!(counts.iter().all(|&count| count > 100), "{self:?}");
     }
 }
 
@@ -156,16 +215,18 @@ fn agreed_cases_are_what_recovery_supposes() {
     let mut verdicts = [0; 7];
     let (mut readable, mut headers, mut gaps) = (0, 0, 0);
     let (mut diverging, mut shorter, mut largest) = (0, 0, 0);
-    let mut firsts = Firsts::default();
+    let (mut firsts, mut witnesses) = (Firsts::default(), Witnesses::default());
     for number in 0..CASES {
         let agreed = agreed_case(&mut case_rng(11, number));
         let logs = logs(&agreed.case);
         assert_agreed(&agreed.case, &logs);
         assert_held(&agreed, &logs);
         firsts.count(&agreed.case, &logs);
+        witnesses.count(&agreed.case, &logs);
+        witnesses.count_committed(&agreed);
         let elsewhere = agreed.committed.iter().filter(|one| one.elsewhere != 0);
         firsts.elsewhere += elsewhere.count() as u64;
-        for log in &logs {
+        for (at, log) in logs.iter().enumerate() {
             match log {
                 Ok(log) => {
                     readable += 1;
@@ -177,6 +238,8 @@ fn agreed_cases_are_what_recovery_supposes() {
                 Err(Refusal::Header) => headers += 1,
                 // Two appends in flight, and only the second one's record arrived.
                 Err(Refusal::UsedAfterBlank) => gaps += 1,
+                // No entry tells the epoch of a damaged record.
+                Err(Refusal::BothLost) if agreed.case.shape.is_witness(at + 1) => {}
                 Err(other) => panic!("case {number}: {other:?}"),
             }
         }
@@ -205,28 +268,35 @@ fn agreed_cases_are_what_recovery_supposes() {
     );
     firsts.each_is_met();
     assert!(firsts.elsewhere > 100, "{firsts:?}");
+    witnesses.each_is_met();
+    for count in [witnesses.wrong_set, witnesses.committed] {
+        assert!(count > 100, "{witnesses:?}");
+    }
 }
 
 #[test]
 fn arbitrary_cases_are_mostly_readable_and_mostly_disagree() {
     let (mut readable, mut refused, mut disagree) = (0, 0, 0);
-    let mut firsts = Firsts::default();
+    let (mut firsts, mut witnesses) = (Firsts::default(), Witnesses::default());
     for number in 0..CASES {
         let case = arbitrary_case(&mut case_rng(12, number));
         let cluster = parts(&case);
         let logs = logs(&case);
         firsts.count(&case, &logs);
+        witnesses.count(&case, &logs);
         refused += logs.iter().filter(|log| log.is_err()).count();
         readable += logs.iter().filter(|log| log.is_ok()).count();
         for (at, log) in logs.iter().enumerate() {
             let (Ok(log), Ok(first)) = (log, &logs[0]) else {
                 continue;
             };
-            let same_epoch = log.length > 0 && log.epoch(1) == first.epoch(1);
+            let cards = !case.shape.is_witness(1) && !case.shape.is_witness(at + 1);
+            let same_epoch = cards && log.length > 0 && log.epoch(1) == first.epoch(1);
             disagree += u64::from(same_epoch && cluster.entry(at + 1, 1) != cluster.entry(1, 1));
         }
     }
     assert!(readable > 5 * refused, "{readable} {refused}");
     assert!(disagree > CASES / 4, "{disagree}");
     firsts.each_is_met();
+    witnesses.each_is_met();
 }

@@ -2,7 +2,7 @@
 //! same bytes in everything that was lent, and nothing written outside.
 
 use harness::compare::agree;
-use harness::comparisons::images::{self, compare, compare_read};
+use harness::comparisons::images::{self, compare, compare_read, compare_witness_read};
 use harness::comparisons::ENOUGH;
 use harness::generate::{image_calls, ImageCalls, Rng};
 use harness::model::{image_len, Shape, LAST_INDEX, MAX_SLOTS};
@@ -22,12 +22,13 @@ fn images() {
 fn images_of_every_slot_count() {
     for m in 1..=MAX_SLOTS {
         let mut tally = Tally::default();
-        for number in 0..6 {
+        for number in 0..12 {
             let mut rng = case_rng(2, 100 * number + m as u64);
             let calls = image_calls(&mut rng, m);
             compare(&mut rng, &calls, &mut tally);
         }
-        assert!(tally.of("read", 0) > 0, "none of {m} slots is read");
+        let read = tally.of("read", 0) + tally.of("witness read", 0);
+        assert!(read > 0, "none of {m} slots is read");
     }
 }
 
@@ -41,19 +42,57 @@ fn filled_logs() {
     }
 }
 
-fn fill_log(shape: Shape, first: u32) {
-    let m = shape.m;
-    let mut rng = case_rng(3, m as u64);
-    let mut calls = ImageCalls {
+/// The same of a witness.
+#[test]
+fn filled_logs_of_witnesses() {
+    for m in 1..=MAX_SLOTS {
+        let (one, two) = (Shape::edition_1(5, m), Shape::edition_2(5, m));
+        let witnesses = 1 << (m % 5);
+        fill_witness(one.with_witnesses(witnesses), 1);
+        let first = LAST_INDEX - (m as u32 - 1);
+        fill_witness(two.with_witnesses(witnesses), first);
+    }
+}
+
+/// The calls about a log that is yet to be made, of replica 1 to 5.
+fn calls_of(shape: Shape, first: u32) -> ImageCalls {
+    let (m, replica) = (shape.m, 1 + shape.m % 5);
+    ImageCalls {
         shape,
-        replica: 1 + m % 5,
-        image: vec![0; image_len(shape)],
+        replica,
+        image: vec![0; image_len(shape, replica)],
         first,
         epochs: m,
         verdicts: m,
         epoch: 0,
         payload: Vec::new(),
-    };
+    }
+}
+
+fn fill_witness(shape: Shape, first: u32) {
+    let m = shape.m;
+    let mut rng = case_rng(4, m as u64);
+    let mut calls = calls_of(shape, first);
+    let format = agree(&mut rng, &calls.format());
+    calls.image.copy_from_slice(format.bytes("image"));
+    for expected in 1..=m {
+        calls.epoch += rng.below(3) as u32 + u32::from(expected == 1);
+        let mut tally = Tally::default();
+        assert_eq!(compare_witness_read(&mut rng, &calls, &mut tally), 0);
+        let append = agree(&mut rng, &calls.witness_append());
+        assert_eq!(append.number("slot"), expected as u64);
+        calls.image.copy_from_slice(append.bytes("image"));
+    }
+    let mut tally = Tally::default();
+    compare(&mut rng, &calls, &mut tally);
+    let counts = [tally.of("witness read", 0), tally.of("witness append", 10)];
+    assert_eq!((counts, tally.of("read", 3)), ([1, 1], 1));
+}
+
+fn fill_log(shape: Shape, first: u32) {
+    let m = shape.m;
+    let mut rng = case_rng(3, m as u64);
+    let mut calls = calls_of(shape, first);
     let format = agree(&mut rng, &calls.format());
     calls.image.copy_from_slice(format.bytes("image"));
     for expected in 1..=m {

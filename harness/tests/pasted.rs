@@ -33,9 +33,12 @@ fn read_agrees() {
     use harness::compare::compare;
     use harness::side::{MODEL, PROVED};
     let call = Call::Read {
-        n: 3,
-        m: 1,
-        edition: 1,
+        shape: harness::model::Shape {
+            n: 3,
+            m: 1,
+            edition: 1,
+            witnesses: 0,
+        },
         replica: 1,
         epochs: 1,
         verdicts: 1,

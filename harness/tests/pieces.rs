@@ -114,13 +114,10 @@ fn headers() {
 
 /// The first index of a header that is good.
 fn judge_header(rng: &mut Rng, header: &[u8], shape: Shape, replica: usize) -> Option<u64> {
-    let Shape { n, m, edition } = shape;
     let header = header.to_vec();
     let call = Call::JudgeHeader {
         header,
-        n,
-        m,
-        edition,
+        shape,
         replica,
     };
     let judged = agree(rng, &call);
@@ -145,7 +142,7 @@ fn headers_of_other_numbers() {
 }
 
 fn compare_header(rng: &mut Rng, shape: Shape, replica: usize, first: u32) {
-    let Shape { n, m, edition } = shape;
+    let Shape { n, m, edition, .. } = shape;
     let header = write_header(shape, replica, first);
     let found = judge_header(rng, &header, shape, replica);
     assert_eq!(found, Some(first.into()));

@@ -96,8 +96,8 @@ fn record_of_epoch_1_index_1(on: Code) {
 }
 
 fn image_lengths(on: Code) {
-    assert_eq!(image_len(Shape::edition_1(3, 1)), 302);
-    assert_eq!(image_len(Shape::edition_1(7, 64)), 17_564);
+    assert_eq!(card_len(Shape::edition_1(3, 1)), 302);
+    assert_eq!(card_len(Shape::edition_1(7, 64)), 17_564);
     let mut one = vec![0; 302];
     assert_eq!(
         on.fresh_image(&mut one, Shape::edition_1(3, 1), 1, 1),
@@ -111,7 +111,7 @@ fn image_lengths(on: Code) {
 }
 
 fn slot_counts_0_and_65_are_refused(on: Code) {
-    let mut image = vec![1; image_len(Shape::edition_1(3, 65))];
+    let mut image = vec![1; card_len(Shape::edition_1(3, 65))];
     for m in [0, 65, usize::MAX] {
         assert_eq!(
             on.fresh_image(&mut image, Shape::edition_1(3, m), 1, 1)

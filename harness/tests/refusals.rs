@@ -102,8 +102,9 @@ fn numbers_are_the_ones_of_the_table() {
         Refusal::CommandLine,
         Refusal::FirstIndex,
         Refusal::FirstDiffers,
+        Refusal::Witnesses,
     ];
-    for (refusal, number) in all.into_iter().zip((1..=14).chain(20..=21)) {
+    for (refusal, number) in all.into_iter().zip((1..=14).chain(20..=22)) {
         assert_eq!(refusal.number(), number);
     }
 }

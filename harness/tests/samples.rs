@@ -1,13 +1,15 @@
 //! The stored samples: what the subcommand writes, what the model prints and what the built printing
-//! program prints.
+//! program prints; and the cluster with a witness, which both plan alike.
 
 use std::collections::{BTreeMap, BTreeSet};
 use std::fs::{self, File};
 use std::path::{Path, PathBuf};
 use std::process::{Command, Output, Stdio};
 
-use harness::model::report;
-use harness::samples::samples;
+use harness::code::{MODEL, PROVED};
+use harness::generate::Cluster;
+use harness::model::{report, BLANK_RECORD};
+use harness::samples::{samples, witness};
 
 fn repository() -> PathBuf {
     Path::new(env!("CARGO_MANIFEST_DIR")).join("..")
@@ -33,7 +35,7 @@ fn files(folder: &Path) -> BTreeMap<String, Vec<u8>> {
         .collect()
 }
 
-/// The names of the stored samples, of which each has both files.
+/// The names of the stored inputs. Each has a plan beside it, and so has the cluster with a witness.
 fn stored_names() -> BTreeSet<String> {
     let of = |ending: &str| -> BTreeSet<String> {
         files(&repository().join("samples"))
@@ -41,8 +43,9 @@ fn stored_names() -> BTreeSet<String> {
             .filter_map(|name| name.strip_suffix(ending).map(str::to_string))
             .collect()
     };
-    let names = of(".in");
-    assert_eq!(names, of(".plan"));
+    let (names, clusters) = (of(".in"), of(".cluster"));
+    assert_eq!(clusters, BTreeSet::from(["witness".to_string()]));
+    assert_eq!(&names | &clusters, of(".plan"));
     assert_eq!(names.len(), samples().len());
     names
 }
@@ -132,6 +135,35 @@ fn the_plans_are_the_named_ones() {
         assert_eq!(found, bytes, "{name}");
     }
     assert_eq!(lines("refused-header"), [["refused", "12"]]);
+}
+
+/// Fetched from the other card, and kept from being cut by the witness's record. Without the record it is
+/// cut, and with the other card away nothing is fetched.
+#[test]
+fn the_cluster_with_a_witness() {
+    for code in [MODEL, PROVED] {
+        let mut sample = witness();
+        assert_eq!(stored("witness", ".cluster"), sample.case.cluster);
+        let plan = String::from_utf8(stored("witness", ".plan")).unwrap();
+        assert_eq!(sample.plan(code), plan, "{}", code.name);
+        assert_eq!(plan_bytes(&plan), ["1", "12", "1", "3"]);
+        sample.case.present = 0b101;
+        assert_eq!(plan_bytes(&sample.plan(code)), ["1", "3", "1", "3"]);
+        sample.case.present = 0b111;
+        let mut cluster = Cluster::of_bytes(sample.case.shape, sample.case.cluster);
+        let record = cluster.record_mut(3, 4);
+        record.copy_from_slice(&BLANK_RECORD);
+        sample.case.cluster = cluster.bytes;
+        assert_eq!(plan_bytes(&sample.plan(code)), ["1", "12", "1", "4"]);
+    }
+}
+
+/// The last column of each line behind the first.
+fn plan_bytes(plan: &str) -> Vec<&str> {
+    let lines = plan.lines().skip(1);
+    lines
+        .filter_map(|line| line.split_whitespace().last())
+        .collect()
 }
 
 /// Only one sample leaves the set blank.

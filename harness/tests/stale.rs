@@ -106,7 +106,7 @@ fn without_stale(on: Code, case: &Case) -> (Cluster, Vec<(usize, usize)>) {
     let Shape { n, m, .. } = case.shape;
     let mut cluster = Cluster::of_bytes(case.shape, case.cluster.clone());
     let mut stale = Vec::new();
-    for replica in 1..=n {
+    for replica in (1..=n).filter(|&replica| !case.shape.is_witness(replica)) {
         let Ok(log) = on.judge_image(cluster.image(replica), cluster.shape, replica) else {
             continue;
         };

@@ -51,18 +51,12 @@ fn planned(on: Code, cluster: &Cluster, leader: usize, present: u32) -> (Answer,
 }
 
 fn stores(on: Code, cluster: &mut Cluster, leader: usize, present: u32) -> Vec<(usize, usize, u8)> {
-    let mut made = Vec::new();
-    while let StepAnswer::Store {
-        replica,
-        slot,
-        kind,
-    } = on
-        .step(&mut cluster.bytes, cluster.shape, leader, present)
-        .unwrap()
-    {
-        made.push((replica, slot, kind as u8));
-    }
-    made
+    let (made, end) = on.stores(&mut cluster.bytes, cluster.shape, leader, present);
+    end.unwrap();
+    let named = made.into_iter();
+    named
+        .map(|(replica, slot, kind)| (replica, slot, kind as u8))
+        .collect()
 }
 
 /// Refusals go by number over the whole image, not by slot.

@@ -1,7 +1,7 @@
 //! A cluster in memory, for the tests.
 #![allow(dead_code)]
 
-use ropelog::{append, format, format_from, Epoch, Geometry, Replica, ReplicaSet};
+use ropelog::{append, format_from, witness_append, Epoch, Geometry, Replica, ReplicaSet};
 
 pub struct Cluster {
     pub geometry: Geometry,
@@ -12,22 +12,33 @@ pub fn epoch(number: u32) -> Epoch {
     Epoch::new(number).unwrap()
 }
 
+/// The set of these replicas of a geometry.
+pub fn set_of(geometry: Geometry, numbers: &[usize]) -> ReplicaSet {
+    let replicas = numbers.iter().map(|&number| geometry.replica(number));
+    replicas.collect::<Result<_, _>>().unwrap()
+}
+
 impl Cluster {
     pub fn fresh(n: usize, m: usize) -> Cluster {
-        let geometry = Geometry::new(n, m).unwrap();
-        let mut bytes = vec![0; geometry.cluster_len()];
-        for replica in geometry.replicas() {
-            format(&mut bytes[geometry.image_range(replica)], geometry, replica).unwrap();
-        }
-        Cluster { geometry, bytes }
+        Cluster::of(Geometry::new(n, m).unwrap(), 1)
     }
 
     /// A cluster of edition 2 whose logs begin at this index.
     pub fn fresh_from(n: usize, m: usize, first: u32) -> Cluster {
-        let geometry = Geometry::edition_2(n, m).unwrap();
+        Cluster::of(Geometry::edition_2(n, m).unwrap(), first)
+    }
+
+    /// A cluster of edition 1 in which these replicas are witnesses.
+    pub fn fresh_with(n: usize, m: usize, witnesses: &[usize]) -> Cluster {
+        let geometry = Geometry::new(n, m).unwrap();
+        Cluster::of(geometry.with_witnesses(set_of(geometry, witnesses)), 1)
+    }
+
+    /// A cluster of fresh images whose logs begin at this index.
+    pub fn of(geometry: Geometry, first: u32) -> Cluster {
         let bytes = vec![0; geometry.cluster_len()];
         let mut cluster = Cluster { geometry, bytes };
-        for number in 1..=n {
+        for number in 1..=geometry.replica_count() {
             cluster.format_from(number, first);
         }
         cluster
@@ -44,7 +55,7 @@ impl Cluster {
     }
 
     pub fn set(&self, numbers: &[usize]) -> ReplicaSet {
-        numbers.iter().map(|&number| self.replica(number)).collect()
+        set_of(self.geometry, numbers)
     }
 
     pub fn image(&self, number: usize) -> &[u8] {
@@ -56,15 +67,19 @@ impl Cluster {
         &mut self.bytes[range]
     }
 
-    /// Appends on each named replica, which must all answer the same slot.
+    /// Appends on each named replica, on a witness the epoch alone; all must answer the same slot.
     pub fn append(&mut self, numbers: &[usize], in_epoch: u32, payload: &[u8]) -> usize {
         let geometry = self.geometry;
         let slots: Vec<usize> = numbers
             .iter()
             .map(|&number| {
                 let replica = self.replica(number);
-                let image = self.image_mut(number);
-                append(image, geometry, replica, epoch(in_epoch), payload).unwrap()
+                let (image, in_epoch) = (self.image_mut(number), epoch(in_epoch));
+                if geometry.is_witness(replica) {
+                    witness_append(image, geometry, replica, in_epoch).unwrap()
+                } else {
+                    append(image, geometry, replica, in_epoch, payload).unwrap()
+                }
             })
             .collect();
         assert!(slots.iter().all(|&slot| slot == slots[0]), "{slots:?}");

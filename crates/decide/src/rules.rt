@@ -6,7 +6,7 @@ ghost use mathlib.Core.Bool.{cond, not, _&&_};
 ghost use lib.Dec.{eqb, ltb};
 ghost use lib.ListN.{getD};
 ghost use Rattle.search.specs.Search.{count, listed, lowest};
-ghost use Rattle.planner.specs.Setting.{has};
+ghost use Rattle.search.specs.Sets.{has};
 ghost use Rattle.planner.specs.Rules.{have, dontHave, mayTruncate, end};
 ghost use Rattle.planner.specs.Plan.{keptByte};
 ghost use Rattle.planner.specs.Sets.{setOf};

@@ -1,25 +1,24 @@
 -- What demand 3 supposes makes the invariant true at first.
 use mathlib.Core.Path.{_≡_, refl, sym, ap, _∙_}
-use mathlib.Core.Bool.{Bool, true, false, not, _&&_, true≢false}
+use mathlib.Core.Bool.{Bool, true, false, not, _&&_, _||_, true≢false}
+use mathlib.Core.List.{[]}
 use Prim.Native.Nat.{ℕ, zero, suc, _+_, _≤_, _<_}
 use native.Mathlib.Omega.{arith}
-use native.Mathlib.Decide.{decLt}
 use lib.Dec.{eqb, leb, ltb}
-use borrow.Author.Tests.{ltb-true, leb-true, eqb-true, lt-ltb, le-leb, eq-eqb}
+use borrow.Author.Tests.{ltb-true, leb-true, eqb-true, lt-ltb, le-leb, eq-eqb, not-true}
 use Rattle.search.specs.Search.{lowest, count, oneIf}
-use Rattle.search.proofs.SearchLaws.{lowest-is, lowest-le, lowest-passes, below-lowest, lowest-le-passing}
-use Rattle.search.proofs.CountLaws.{sum-le, count-none}
+use Rattle.search.proofs.SearchLaws.{lowest-is, lowest-passes, lowest-le-passing}
+use Rattle.search.proofs.CountLaws.{sum-le}
 use Rattle.slices.specs.Parts.{Bytes}
-use Rattle.slices.specs.Same.{same}
-use Rattle.slices.proofs.SameLaws.{and-left, and-right, same-true}
-use Rattle.record.specs.Meaning.{Header, proper, improper, firstIndex, Record, Entry, intact}
+use Rattle.slices.proofs.SameLaws.{and-left, and-right}
+use Rattle.record.specs.Meaning.{Header, proper, improper, firstIndex, Record, Entry, intact, broken}
 use Rattle.image.specs.Image.{Image, index}
 use Rattle.image.specs.Cluster.{Cluster}
-use Rattle.image.specs.View.{epochOf, isBlank, isProper, epochAt, logLength, viewOf}
+use Rattle.image.specs.View.{condition, conditionAt, epochOf, isBlank, isProper, isLost, epochAt, logLength, viewOf, seenAs}
 use Rattle.image.proofs.ViewLaws.{readable-sound}
-use Rattle.planner.specs.Setting.{Setting, viewsOf}
+use Rattle.planner.specs.Setting.{Setting, witness, viewsOf}
 use Rattle.planner.specs.Rules.{majority}
-use Rattle.demand3.specs.Supposed.{History, DamagedSlot, undamaged, recordBad, entryBad, DamagedHeader, ownHeader, noHeader, Damaged, Within, SameUpTo, Agree, held, committed, Supposed}
+use Rattle.demand3.specs.Supposed.{History, DamagedSlot, undamaged, recordBad, entryBad, DamagedRecord, recordGood, recordSpoilt, DamagedHeader, ownHeader, noHeader, DamagedAs, cardLeft, witnessLeft, Within, SameUpTo, Agree, held, committed, Supposed}
 use Rattle.protocol.proofs.Consistency.{Consistent}
 use Rattle.protocol.proofs.HoldingLaws.{Holding}
 use Rattle.protocol.proofs.Invariant.{Inv}
@@ -42,22 +41,39 @@ slot-payload undamaged q y = cc
 slot-payload recordBad q y = cc
 slot-payload (entryBad h) q y = absurd (h q y)
 
-damaged-length : (m : ℕ) (h : History) (i : Image) → Damaged m h i → logLength m i ≡ h .length
-unfolding logLength isBlank
-damaged-length m h i d = lowest-is (λ k. isBlank (i .records k)) m (h .length) (d .fits) (λ j b. slot-used (d .used j b)) (λ b. rw (d .unused b))
+-- a witness's: with no entry beside it a bad record is lost
+record-used : {e : ℕ} {r : Record} → DamagedRecord e r → isBlank r ≡ false
+unfolding isBlank
+record-used recordGood = refl
+record-used recordSpoilt = refl
+
+record-epoch : {e : ℕ} {r : Record} (x : Entry) → DamagedRecord e r → x ≡ broken [] → isLost (condition r x) ≡ false → epochOf r x ≡ e
+unfolding epochOf condition isLost
+record-epoch x recordGood n l = refl
+record-epoch x recordSpoilt n l = absurd (true≢false (rw n at l))
+
+-- either
+module _ {m : ℕ} {h : History} {i : Image} where
+  pub left-fits : {w : Bool} → DamagedAs m h i w → h .length ≤ m
+  left-fits (cardLeft d) = d .fits
+  left-fits (witnessLeft d) = d .fits
+
+  left-length : {w : Bool} → DamagedAs m h i w → logLength m i ≡ h .length
+  unfolding logLength isBlank
+  left-length (cardLeft d) = lowest-is (λ k. isBlank (i .records k)) m (h .length) (d .fits) (λ j b. slot-used (d .used j b)) (λ b. rw (d .unused b))
+  left-length (witnessLeft d) = lowest-is (λ k. isBlank (i .records k)) m (h .length) (d .fits) (λ j b. record-used (d .used j b)) (λ b. rw (d .unused b))
+
+  left-epoch : {w : Bool} → DamagedAs m h i w → (k : ℕ) → k < h .length → (w ≡ true → i .entries k ≡ broken []) → isLost (conditionAt i k) ≡ false → epochAt i k ≡ h .epoch (index (h .first) k)
+  unfolding conditionAt epochAt
+  left-epoch (cardLeft d) k b n l = slot-epoch (d .used k b)
+  left-epoch (witnessLeft d) k b n l = record-epoch (i .entries k) (d .used k b) (n refl) l
+
+  left-payload : {w : Bool} → DamagedAs m h i w → w ≡ false → (k : ℕ) → k < h .length → (q : Bytes)
+      → i .entries k ≡ intact (h .epoch (index (h .first) k)) q → q ≡ h .payload (index (h .first) k)
+  left-payload (cardLeft d) c k b = slot-payload (d .used k b)
+  left-payload (witnessLeft d) c k b = absurd (true≢false c)
 
 -- ---- holders
-majority-some : (n : ℕ) → 1 ≤ majority n
-unfolding majority
-majority-some n = omega arith
-
-some-passes : (p : ℕ → Bool) (b : ℕ) → 1 ≤ count p b → lowest p b < b
-some-passes p b h = go (decLt (lowest p b) b)
-  where
-    go : Dec (lowest p b < b) → lowest p b < b
-    go (yes l) = l
-    go (no l) = absurd (omega (arith, count-none p b (λ k x. below-lowest p b k (omega arith)), lowest-le p b))
-
 pub record Held (i e : ℕ) (h : History) : Type 0 where
   pub within : Within i h
   pub epoch : h .epoch i ≡ e
@@ -81,61 +97,55 @@ held-intro i e h w b = rw (le-leb (h .first) i (w .low), lt-ltb i (h .first + h 
 within-slot : (h : History) (k : ℕ) → k < h .length → Within (h .first + k) h
 within-slot h k b = record { low = omega arith; high = omega arith }
 
-pub committed-held : (i e : ℕ) (p : Bytes) (h : History) → committed i e p h ≡ true → held i e h ≡ true
-unfolding committed
-committed-held i e p h x = and-left (held i e h) (same (h .payload i) p && not (h .inFlight i)) x
-
-pub committed-payload : (i e : ℕ) (p : Bytes) (h : History) → committed i e p h ≡ true → h .payload i ≡ p
-unfolding committed
-committed-payload i e p h x =
-    same-true (h .payload i) p
-    (and-left (same (h .payload i) p) (not (h .inFlight i)) (and-right (held i e h) (same (h .payload i) p && not (h .inFlight i)) x))
-
-pub committed-few : (n i e : ℕ) (p : Bytes) (H : ℕ → History) → count (λ c. committed i e p (H c)) n ≤ count (λ c. held i e (H c)) n
+pub committed-few : (S : Setting) (i e : ℕ) (p : Bytes) (H : ℕ → History)
+    → count (λ c. committed (witness S c) i e p (H c)) (S .shape .n) ≤ count (λ c. held i e (H c)) (S .shape .n)
 unfolding count committed oneIf
-committed-few n i e p H =
-    sum-le (λ c. oneIf (committed i e p (H c))) (λ c. oneIf (held i e (H c))) n (λ c b. go (held i e (H c)) (same (H c .payload i) p && not (H c .inFlight i)))
+committed-few S i e p H =
+    sum-le (λ c. oneIf (committed (witness S c) i e p (H c))) (λ c. oneIf (held i e (H c))) (S .shape .n)
+    (λ c b. go (held i e (H c)) _)
   where
     go : (a t : Bool) → oneIf (a && t) ≤ oneIf a
     go true true = omega arith
     go true false = omega arith
     go false t = omega arith
 
--- ---- the one payload for each slot and epoch, and the one epoch below: those of the lowest replica whose log held it, and of the lowest
+-- ---- the one payload for each slot and epoch, and the one epoch below: those of the lowest card whose log held it, and of the lowest replica
 -- whose log held it and the index below. Slots are counted from index L
-module _ (n : ℕ) (H : ℕ → History) (L : ℕ) where
-  abbrev heldAt : ℕ → ℕ → ℕ → Bool
-  heldAt k e c = held (L + k) e (H c)
+module _ (S : Setting) (H : ℕ → History) (L : ℕ) where
+  abbrev onCardAt : ℕ → ℕ → ℕ → Bool
+  onCardAt k e c = not (witness S c) && held (L + k) e (H c)
 
   abbrev heldTwo : ℕ → ℕ → ℕ → Bool
   heldTwo k e c = leb (H c .first) (L + k) && held (L + suc k) e (H c)
 
   unfoldable pub payloadAt : ℕ → ℕ → Bytes
-  payloadAt k e = H (lowest (heldAt k e) n) .payload (L + k)
+  payloadAt k e = H (lowest (onCardAt k e) (S .shape .n)) .payload (L + k)
 
   unfoldable pub epochBelow : ℕ → ℕ → ℕ
   epochBelow zero e = zero
-  epochBelow (suc k) e = H (lowest (heldTwo k e) n) .epoch (L + k)
+  epochBelow (suc k) e = H (lowest (heldTwo k e) (S .shape .n)) .epoch (L + k)
 
-  module _ (agree : Agree n H) (c k : ℕ) (cn : c < n) where
-    pub payload-at : (e : ℕ) → held (L + k) e (H c) ≡ true → payloadAt k e ≡ H c .payload (L + k)
+  module _ (agree : Agree S H) (c k : ℕ) (cn : c < S .shape .n) where
+    pub payload-at : (e : ℕ) → witness S c ≡ false → held (L + k) e (H c) ≡ true → payloadAt k e ≡ H c .payload (L + k)
     unfolding payloadAt Agree
-    payload-at e h =
-        let w = lowest (heldAt k e) n in
-        let b = lowest-le-passing (heldAt k e) n c cn h in
-        let t = lowest-passes (heldAt k e) n (omega arith) in
-        let x = held-elim (L + k) e (H w) t in
+    payload-at e card h =
+        let w = lowest (onCardAt k e) (S .shape .n) in
+        let p : onCardAt k e c ≡ true = rw card h in
+        let b = lowest-le-passing (onCardAt k e) (S .shape .n) c cn p in
+        let t = lowest-passes (onCardAt k e) (S .shape .n) (omega arith) in
+        let x = held-elim (L + k) e (H w) (and-right (not (witness S w)) (held (L + k) e (H w)) t) in
         let y = held-elim (L + k) e (H c) h in
+        let v = not-true (witness S w) (and-left (not (witness S w)) (held (L + k) e (H w)) t) in
         agree w c (L + k) (omega arith) cn (x .within) (y .within) (x .epoch ∙ sym (y .epoch))
-        .payloads (L + k) (x .within .low) (omega (arith, y .within .low)) (omega arith)
+        .payloads (rw (v, card)) (L + k) (x .within .low) (omega (arith, y .within .low)) (omega arith)
 
     pub epoch-below : (e : ℕ) → H c .first ≤ L + k → held (L + suc k) e (H c) ≡ true → epochBelow (suc k) e ≡ H c .epoch (L + k)
     unfolding epochBelow Agree
     epoch-below e low h =
-        let w = lowest (heldTwo k e) n in
+        let w = lowest (heldTwo k e) (S .shape .n) in
         let p : heldTwo k e c ≡ true = rw (le-leb (H c .first) (L + k) low) h in
-        let b = lowest-le-passing (heldTwo k e) n c cn p in
-        let t = lowest-passes (heldTwo k e) n (omega arith) in
+        let b = lowest-le-passing (heldTwo k e) (S .shape .n) c cn p in
+        let t = lowest-passes (heldTwo k e) (S .shape .n) (omega arith) in
         let x = held-elim (L + suc k) e (H w) (and-right (leb (H w .first) (L + k)) (held (L + suc k) e (H w)) t) in
         let y = held-elim (L + suc k) e (H c) h in
         agree w c (L + suc k) (omega arith) cn (x .within) (y .within) (x .epoch ∙ sym (y .epoch))
@@ -151,26 +161,30 @@ proper-own noHeader e = absurd (true≢false (sym e))
 pub record Linked (S : Setting) (F G : Cluster) (H : ℕ → History) : Type 0 where
   pub header : (c : ℕ) → G c .header ≡ F c .header
   pub same : (c : ℕ) → F c .header ≡ proper (H c .first) → G c ≡ F c
+  -- a witness has no entries
+  pub bare : (c k : ℕ) → witness S c ≡ true → F c .entries k ≡ broken []
 
 module _ (S : Setting) (F G : Cluster) (H : ℕ → History) (I e : ℕ) (p : Bytes) (s : Supposed S G H I e p) (link : Linked S F G H) where
   own-header : (c : ℕ) → c < S .shape .n → viewsOf S F c .readable ≡ true → F c .header ≡ proper (H c .first)
-  unfolding viewsOf
+  unfolding viewsOf seenAs
   own-header c cn ok = sym (link .header c) ∙ proper-own (s .headers c cn) (rw (link .header c) (readable-sound (S .present c) (S .shape .m) (F c) ok .headed))
 
-  damaged : (c : ℕ) → c < S .shape .n → viewsOf S F c .readable ≡ true → Damaged (S .shape .m) (H c) (F c)
+  damaged : (c : ℕ) → c < S .shape .n → viewsOf S F c .readable ≡ true → DamagedAs (S .shape .m) (H c) (F c) (witness S c)
   damaged c cn ok = rw (← link .same c (own-header c cn ok)) (s .damaged c cn)
 
   pub view-first : (c : ℕ) → c < S .shape .n → viewsOf S F c .readable ≡ true → viewsOf S F c .first ≡ H c .first
-  unfolding viewsOf viewOf firstIndex
+  unfolding viewsOf seenAs viewOf firstIndex
   view-first c cn ok = ap firstIndex (own-header c cn ok)
 
   view-length : (c : ℕ) → c < S .shape .n → viewsOf S F c .readable ≡ true → viewsOf S F c .length ≡ H c .length
-  unfolding viewsOf viewOf
-  view-length c cn ok = damaged-length (S .shape .m) (H c) (F c) (damaged c cn ok)
+  unfolding viewsOf seenAs viewOf
+  view-length c cn ok = left-length (damaged c cn ok)
 
   view-epoch : (c k : ℕ) → c < S .shape .n → viewsOf S F c .readable ≡ true → k < H c .length → viewsOf S F c .epoch k ≡ H c .epoch (H c .first + k)
-  unfolding viewsOf viewOf epochAt index
-  view-epoch c k cn ok h = slot-epoch (damaged c cn ok .used k h)
+  unfolding viewsOf seenAs viewOf index
+  view-epoch c k cn ok h =
+      left-epoch (damaged c cn ok) k h (link .bare c k)
+      (readable-sound (S .present c) (S .shape .m) (F c) ok .kept k (omega (arith, left-fits (damaged c cn ok))))
 
   -- the slot of an index that a readable replica's log held
   pub base-holding : (c k : ℕ) → c < S .shape .n → viewsOf S F c .readable ≡ true → held I e (H c) ≡ true → viewsOf S F c .first + k ≡ I → Holding k e (viewsOf S F c)
@@ -189,38 +203,26 @@ module _ (S : Setting) (F G : Cluster) (H : ℕ → History) (I e : ℕ) (p : By
       let g : H c .first + k ≡ I = omega (arith, f, at) in
       held-intro I e (H c) (record { low = omega arith; high = omega arith }) (ap (H c .epoch) (sym g) ∙ sym (view-epoch c k cn ok b) ∙ u .epoch)
 
-  -- a log in which it stood committed, and so every log that held it, held this payload
-  pub record Stood : Type 0 where
-    pub replica : ℕ
-    pub below : replica < S .shape .n
-    pub there : held I e (H replica) ≡ true
-    pub payload : H replica .payload I ≡ p
-
-  pub stood : Stood
-  stood =
-      let d = lowest (λ d. committed I e p (H d)) (S .shape .n) in
-      let dn = some-passes (λ d. committed I e p (H d)) (S .shape .n) (omega (arith, s .onMajority, majority-some (S .shape .n))) in
-      let t = lowest-passes (λ d. committed I e p (H d)) (S .shape .n) dn in
-      record { replica = d; below = dn; there = committed-held I e p (H d) t; payload = committed-payload I e p (H d) t }
-
-  pub one-payload : (c : ℕ) → c < S .shape .n → held I e (H c) ≡ true → H c .payload I ≡ p
+  -- every card whose log held it held this payload
+  pub one-payload : (c : ℕ) → c < S .shape .n → witness S c ≡ false → held I e (H c) ≡ true → H c .payload I ≡ p
   unfolding Agree
-  one-payload c cn h =
-      let o = stood in
+  one-payload c cn card h =
+      let o = s .onCard in
       let x = held-elim I e (H (o .replica)) (o .there) in
       let y = held-elim I e (H c) h in
-      s .agree c (o .replica) I cn (o .below) (y .within) (x .within) (y .epoch ∙ sym (x .epoch)) .payloads I (y .within .low) (omega (arith, x .within .low)) (omega arith) ∙ o .payload
+      s .agree c (o .replica) I cn (o .below) (y .within) (x .within) (y .epoch ∙ sym (x .epoch))
+      .payloads (rw (card, o .card)) I (y .within .low) (omega (arith, x .within .low)) (omega arith) ∙ o .payload
 
-  -- an entry that a log held, intact with its epoch, has the payload
-  pub base-payload : (c k : ℕ) (q : Bytes) → c < S .shape .n → held I e (H c) ≡ true → H c .first + k ≡ I → G c .entries k ≡ intact e q → q ≡ p
+  -- an entry that a card's log held, intact with its epoch, has the payload
+  pub base-payload : (c k : ℕ) (q : Bytes) → c < S .shape .n → witness S c ≡ false → held I e (H c) ≡ true → H c .first + k ≡ I → G c .entries k ≡ intact e q → q ≡ p
   unfolding index
-  base-payload c k q cn h at x =
+  base-payload c k q cn card h at x =
       let y = held-elim I e (H c) h in
       let b : k < H c .length = omega (arith, y .within .high, at) in
-      slot-payload (s .damaged c cn .used k b) q (rw (at, y .epoch) x) ∙ ap (H c .payload) at ∙ one-payload c cn h
+      left-payload (s .damaged c cn) card k b q (rw (at, y .epoch) x) ∙ ap (H c .payload) at ∙ one-payload c cn card h
 
   pub many : majority (S .shape .n) ≤ count (λ c. held I e (H c)) (S .shape .n)
-  many = omega (arith, s .onMajority, committed-few (S .shape .n) I e p H)
+  many = omega (arith, s .onMajority, committed-few S I e p H)
 
 -- what is supposed of a cluster that planning does not refuse: every readable replica has the leader's first index, and K is the slot
 pub record Ground (S : Setting) (F : Cluster) (H : ℕ → History) (I e : ℕ) (p : Bytes) (K : ℕ) : Type 0 where
@@ -252,29 +254,29 @@ module _ (S : Setting) (F : Cluster) (H : ℕ → History) (I e : ℕ) (p : Byte
   at-epoch : (c k : ℕ) → c < S .shape .n → viewsOf S F c .readable ≡ true → k < viewsOf S F c .length → viewsOf S F c .epoch k ≡ H c .epoch (leaderFirst + k)
   at-epoch c k cn ok h = sym (held-elim (leaderFirst + k) (viewsOf S F c .epoch k) (H c) (at-slot c k cn ok h) .epoch)
 
-  base-consistent : Consistent S (payloadAt (S .shape .n) H leaderFirst) (epochBelow (S .shape .n) H leaderFirst) F
+  base-consistent : Consistent S (payloadAt S H leaderFirst) (epochBelow S H leaderFirst) F
   unfolding index
   base-consistent = record {
-    payloads = λ c k q cn ok h x.
+    payloads = λ c k q cn card ok h x.
         let b : k < H c .length = rw (view-length S F G H I e p s (g .link) c cn ok) at h in
-        slot-payload (damaged S F G H I e p s (g .link) c cn ok .used k b) q (rw (view-epoch S F G H I e p s (g .link) c k cn ok b) at x)
+        left-payload (damaged S F G H I e p s (g .link) c cn ok) card k b q (rw (view-epoch S F G H I e p s (g .link) c k cn ok b) at x)
         ∙ ap (λ (f : ℕ). H c .payload (f + k)) (own-first c cn ok)
-        ∙ sym (payload-at (S .shape .n) H leaderFirst (s .agree) c k cn (viewsOf S F c .epoch k) (at-slot c k cn ok h));
+        ∙ sym (payload-at S H leaderFirst (s .agree) c k cn (viewsOf S F c .epoch k) card (at-slot c k cn ok h));
     chain = λ c k cn ok h.
         at-epoch c k cn ok (omega arith)
-        ∙ sym (epoch-below (S .shape .n) H leaderFirst (s .agree) c k cn (viewsOf S F c .epoch (suc k)) (omega (arith, own-first c cn ok)) (at-slot c (suc k) cn ok h));
+        ∙ sym (epoch-below S H leaderFirst (s .agree) c k cn (viewsOf S F c .epoch (suc k)) (omega (arith, own-first c cn ok)) (at-slot c (suc k) cn ok h));
   }
 
   pub ground-holding : (c : ℕ) → c < S .shape .n → viewsOf S F c .readable ≡ true → held I e (H c) ≡ true → Holding K e (viewsOf S F c)
   ground-holding c cn ok h = base-holding S F G H I e p s (g .link) c K cn ok h (omega (arith, g .firsts c cn ok, g .slot))
 
-  pub base-inv : Inv S (payloadAt (S .shape .n) H leaderFirst) (epochBelow (S .shape .n) H leaderFirst) (λ c. held I e (H c)) K e F F
+  pub base-inv : Inv S (payloadAt S H leaderFirst) (epochBelow S H leaderFirst) (λ c. held I e (H c)) K e F F
   base-inv = record {
     consistent = base-consistent;
     holders = λ c cn h r. record { used = ground-holding c cn r h; entry = λ q y. y };
   }
 
-  pub payload-is : payloadAt (S .shape .n) H leaderFirst K e ≡ p
+  pub payload-is : payloadAt S H leaderFirst K e ≡ p
   payload-is =
-      let o = stood S F G H I e p s (g .link) in
-      payload-at (S .shape .n) H leaderFirst (s .agree) (o .replica) K (o .below) e (rw (g .slot) (o .there)) ∙ ap (H (o .replica) .payload) (g .slot) ∙ o .payload
+      let o = s .onCard in
+      payload-at S H leaderFirst (s .agree) (o .replica) K (o .below) e (o .card) (rw (g .slot) (o .there)) ∙ ap (H (o .replica) .payload) (g .slot) ∙ o .payload

@@ -28,6 +28,7 @@ use Rattle.starred.proofs.ComputedLaws.{computed}
 use Rattle.starred.proofs.SeenLaws.{over, holds, recordOf, entryOf, over-at}
 use Rattle.demand3.specs.Supposed.{held, committed}
 use Rattle.demand3.specs.Before.{SlotDamage, spared, entryDamaged, HeaderDamage, headerSpared, Damage, payloadIn, payloadAt, historyOf, firstsOf, DamagedCluster}
+use Rattle.demand3.proofs.CardsLaws.{damaged-cards}
 use Rattle.demand3.specs.Histories.{noFlights}
 use Rattle.demand3.specs.Earliest.{ruleBy, undamagedBut, TruncatesCommitted}
 use Rattle.demand3.proofs.ExampleDamage.{one-slot, paidFrom, agreed}
@@ -52,7 +53,7 @@ unfolding imageA emptyImage imageWith
 header-damage true = headerSpared
 header-damage false = headerSpared
 
-committed-is : (c : ℕ) (t : Bool) → committed 1 2 payloadA (historyOf 1 (noFlights c) (cond t imageA emptyImage)) ≡ t
+committed-is : (c : ℕ) (t : Bool) → committed false 1 2 payloadA (historyOf 1 (noFlights c) (cond t imageA emptyImage)) ≡ t
 unfolding committed held historyOf imageA emptyImage imageWith noFlights epochAt epochOf logLength lowest isBlank payloadIn payloadAt payloadA same firstIndex
 committed-is c true = refl
 committed-is c false = refl
@@ -80,15 +81,15 @@ module _ (n d : ℕ) (low : 3 ≤ n) (high : n ≤ 7) (few : majority n + d ≤ 
 
   damaged-but : DamagedCluster (named (asked n d)) (undamagedBut d) noFlights (decodeWith (withOne n) (firstsOf (undamagedBut d)) (cards n d)) 1 2 payloadA
   unfolding settingOf undamagedBut
-  damaged-but = record {
+  damaged-but = damaged-cards (named (asked n d)) refl (undamagedBut d) noFlights (decodeWith (withOne n) (firstsOf (undamagedBut d)) (cards n d)) 1 2 payloadA (record {
     before = λ c h. before-either c (holds d c);
     damage = λ c h. rw (with-one (withOne n) (firstsOf (undamagedBut d)) (cards n d) c refl (first-either (holds d c))) (damage-but c h);
     agree = agreed n 2 (paidFrom 1) _ (λ c h. alike-either c (holds d c));
     onMajority =
-        rw (count-cong (λ c. committed 1 2 payloadA (historyOf 1 (noFlights c) (undamagedBut d c))) (holds d) n (λ c h. committed-is c (holds d c)))
+        rw (count-cong (λ c. committed false 1 2 payloadA (historyOf 1 (noFlights c) (undamagedBut d c))) (holds d) n (λ c h. committed-is c (holds d c)))
         (leb-true (majority n) (count (holds d) n) (seen _ _ (computed .2 .holders)));
     leaderHeld = leader-held;
-  }
+  })
 
   truncates-committed : (test : ℕ → ℕ → Bool) → test n d ≡ true → TruncatesCommitted test n d
   unfolding ruleBy settingOf

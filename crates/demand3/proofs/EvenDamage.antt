@@ -18,6 +18,7 @@ use Rattle.example.specs.Four.{ofFour, four, evenCluster}
 use Rattle.example.proofs.ComputedLaws.{even-computed}
 use Rattle.demand3.specs.Supposed.{History, held, committed}
 use Rattle.demand3.specs.Before.{Before, spared, entryDamaged, headerSpared, Damage, payloadIn, payloadAt, historyOf, firstsOf, DamagedCluster}
+use Rattle.demand3.proofs.CardsLaws.{damaged-cards}
 use Rattle.demand3.specs.Histories.{noFlights}
 use Rattle.demand3.proofs.ExampleDamage.{stale, noisy, stored-A, flying-A, one-slot, paidFrom, Alike, agreed, alike-A, alike-empty}
 
@@ -62,10 +63,10 @@ historiesFour c = historyOf 1 (noFlights c) (undamagedFour c)
 
 pub damaged-four : DamagedCluster (named four) undamagedFour noFlights (decodeWith ofFour (firstsOf undamagedFour) evenCluster) 1 2 payloadA
 unfolding four settingOf majority historiesFour count sum oneIf committed held historyOf undamagedFour imageA emptyImage imageWith noFlights epochAt epochOf logLength lowest isBlank payloadIn payloadAt payloadA same firstIndex
-damaged-four = record {
+damaged-four = damaged-cards (named four) refl undamagedFour noFlights (decodeWith ofFour (firstsOf undamagedFour) evenCluster) 1 2 payloadA (record {
   before = λ c h. before-either c (ltb c 3);
   damage = λ c h. rw (with-one ofFour (firstsOf undamagedFour) evenCluster c refl (first-either (ltb c 3))) (damage-four c h);
   agree = agreed 4 2 (paidFrom 1) historiesFour (λ c h. alike-either c (ltb c 3));
   onMajority = omega arith;
   leaderHeld = refl;
-}
+})

@@ -23,9 +23,9 @@ pub played : CallList five calls damagedCluster lastCluster
 unfolding calls blankedOne tornOne fetchedOne twoMore lastStored lastCluster budgetOf refusalOf stepsBytes settingOf five
 played =
     made (plan 3 5) (computed .planned) whole
-    (refused (record { numbers = record { shape = record { n = 5; m = 0; edition = 1 }; leader = 1; present = 31 }; call = run 9 }) (apart (computed .refused-1))
-    (refused (record { numbers = record { shape = record { n = 8; m = 3; edition = 1 }; leader = 1; present = 31 }; call = step }) (apart (computed .refused-2))
-    (refused (record { numbers = record { shape = record { n = 5; m = 2; edition = 1 }; leader = 1; present = 31 }; call = step }) (apart (computed .refused-3))
+    (refused (record { numbers = record { shape = record { n = 5; m = 0; edition = 1; witnesses = 0 }; leader = 1; present = 31 }; call = run 9 }) (apart (computed .refused-1))
+    (refused (record { numbers = record { shape = record { n = 8; m = 3; edition = 1; witnesses = 0 }; leader = 1; present = 31 }; call = step }) (apart (computed .refused-2))
+    (refused (record { numbers = record { shape = record { n = 5; m = 2; edition = 1; witnesses = 0 }; leader = 1; present = 31 }; call = step }) (apart (computed .refused-3))
     (refused (record { numbers = record { shape = ofFive; leader = 1; present = 63 }; call = step }) (apart (computed .refused-11))
     (refused (record { numbers = record { shape = ofFive; leader = 5; present = 31 }; call = step }) (apart (computed .refused-12))
     (refused (record { numbers = five; call = plan 2 5 }) (apart (computed .refused-13))

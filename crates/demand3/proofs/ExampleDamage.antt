@@ -15,12 +15,14 @@ use Rattle.image.specs.View.{condition, conditionAt, epochOf, epochAt, isBlank,
 use Rattle.image.specs.Verdict.{verdictOf, verdictAt}
 use Rattle.planner.specs.Setting.{settingOf}
 use Rattle.planner.specs.Rules.{majority}
-use Rattle.demand3.specs.Supposed.{History, Within, Agree, held, committed, Supposed}
+use Rattle.demand3.specs.Supposed.{History, Within, held, committed, Supposed}
 use Rattle.demand3.specs.Before.{Flight, FlightSlot, arrived, recordAlone, Before, SlotDamage, spared, recordDamaged, entryDamaged, unusedDamaged, headerSpared, headerRefused, Damage, payloadIn, payloadAt, historyOf, firstsOf, DamagedCluster}
 use Rattle.protocol.specs.Call.{named}
 use Rattle.example.specs.Undamaged.{payloadA, payloadB, payloadC, noise, imageWith, leaderImage, imageAB, emptyImage, gapImage, imageA, undamagedFive, undamagedThree}
 use Rattle.example.specs.Damaged.{ofFive, five, damagedCluster}
 use Rattle.example.specs.Waiting.{ofThree, three, waitingCluster}
+use Rattle.demand3.proofs.CardsLaws.{damaged-cards}
+use Rattle.demand3.specs.Cards.{AgreeCards}
 use Rattle.demand3.specs.Histories.{inFlightFive, writtenTo, flightsFive, historiesFive, noFlights}
 use Rattle.demand3.proofs.BeforeLaws.{damaged-cluster}
 use Rattle.example.proofs.ComputedLaws.{computed, waiting-computed}
@@ -201,11 +203,11 @@ module _ (e : ℕ) (paid : ℕ → Bytes) (h : History) (a : Alike e paid h) (i 
   payload-at : h .payload j ≡ paid j
   payload-at = rw at at (a .payloads (j - h .first) below)
 
-pub agreed : (n e : ℕ) (paid : ℕ → Bytes) (H : ℕ → History) → ((c : ℕ) → c < n → Alike e paid (H c)) → Agree n H
-unfolding Agree
+pub agreed : (n e : ℕ) (paid : ℕ → Bytes) (H : ℕ → History) → ((c : ℕ) → c < n → Alike e paid (H c)) → AgreeCards n H
+unfolding AgreeCards
 agreed n e paid H alike c d i cn dn h g x = record {
   epochs = λ j a b u. epoch-at e paid (H c) (alike c cn) i j h a u ∙ sym (epoch-at e paid (H d) (alike d dn) i j g b u);
-  payloads = λ j a b u. payload-at e paid (H c) (alike c cn) i j h a u ∙ sym (payload-at e paid (H d) (alike d dn) i j g (omega arith) u);
+  payloads = λ _ j a b u. payload-at e paid (H c) (alike c cn) i j h a u ∙ sym (payload-at e paid (H d) (alike d dn) i j g (omega arith) u);
 }
 
 -- what epoch 2 wrote to each index of a log that begins at 1
@@ -297,13 +299,13 @@ alike-three c h = alike-A (noFlights c .inFlight)
 
 pub damaged-five : DamagedCluster (named five) undamagedFive flightsFive (decodeWith ofFive (firstsOf undamagedFive) damagedCluster) 1 2 payloadA
 unfolding five settingOf majority historiesFive count sum oneIf committed held historyOf undamagedFive leaderImage imageAB emptyImage gapImage imageWith flightsFive inFlightFive epochAt epochOf logLength lowest isBlank payloadIn payloadAt payloadA same firstIndex
-damaged-five = record {
+damaged-five = damaged-cards (named five) refl undamagedFive flightsFive (decodeWith ofFive (firstsOf undamagedFive) damagedCluster) 1 2 payloadA (record {
   before = before-five;
   damage = λ c h. rw (with-one ofFive (firstsOf undamagedFive) damagedCluster c refl (firsts-five c)) (damage-five c h);
   agree = agreed 5 2 (paidFrom 1) historiesFive alike-five;
   onMajority = omega arith;
   leaderHeld = refl;
-}
+})
 
 pub supposed-five : Supposed (named five) (decodeWith ofFive (firstsOf undamagedFive) damagedCluster) historiesFive 1 2 payloadA
 unfolding five settingOf historiesFive
@@ -311,10 +313,10 @@ supposed-five = damaged-cluster (named five) undamagedFive flightsFive (decodeWi
 
 pub damaged-three : DamagedCluster (named three) undamagedThree noFlights (decodeWith ofThree (firstsOf undamagedThree) waitingCluster) 1 2 payloadA
 unfolding three settingOf majority historiesThree count sum oneIf committed held historyOf undamagedThree imageA imageWith noFlights epochAt epochOf logLength lowest isBlank payloadIn payloadAt payloadA same firstIndex
-damaged-three = record {
+damaged-three = damaged-cards (named three) refl undamagedThree noFlights (decodeWith ofThree (firstsOf undamagedThree) waitingCluster) 1 2 payloadA (record {
   before = before-three;
   damage = λ c h. rw (with-one ofThree (firstsOf undamagedThree) waitingCluster c refl (firsts-three c)) (damage-three c h);
   agree = agreed 3 2 (paidFrom 1) historiesThree alike-three;
   onMajority = omega arith;
   leaderHeld = refl;
-}
+})

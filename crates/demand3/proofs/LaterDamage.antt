@@ -21,6 +21,7 @@ use Rattle.example.specs.LaterComputed.{MeansUnder}
 use Rattle.example.proofs.LaterLaws.{later-computed}
 use Rattle.demand3.specs.Supposed.{History, held, committed}
 use Rattle.demand3.specs.Before.{Before, SlotDamage, spared, entryDamaged, headerSpared, headerRefused, Damage, payloadIn, payloadAt, historyOf, firstsOf, DamagedCluster}
+use Rattle.demand3.proofs.CardsLaws.{damaged-cards}
 use Rattle.demand3.specs.Histories.{writtenTo, noFlights}
 use Rattle.demand3.proofs.ExampleDamage.{noisy, paidFrom, Alike, agreed}
 
@@ -127,20 +128,20 @@ alike-later (suc (suc c)) h = record { epochs = epochs; payloads = payloads }
 
 pub damaged-A : DamagedCluster (named later) undamagedLater noFlights (decodeWith ofLater (firstsOf undamagedLater) laterCluster) 7 2 payloadA
 unfolding later settingOf majority historiesLater count sum oneIf committed held historyOf undamagedLater imageFrom noFlights epochAt epochOf logLength lowest isBlank payloadIn payloadAt payloadA payloadB same firstIndex damaged
-damaged-A = record {
+damaged-A = damaged-cards (named later) refl undamagedLater noFlights (decodeWith ofLater (firstsOf undamagedLater) laterCluster) 7 2 payloadA (record {
   before = before-later;
   damage = damage-later;
   agree = agreed 3 2 (paidFrom 7) historiesLater alike-later;
   onMajority = omega arith;
   leaderHeld = refl;
-}
+})
 
 pub damaged-B : DamagedCluster (named later) undamagedLater noFlights (decodeWith ofLater (firstsOf undamagedLater) laterCluster) 8 2 payloadB
 unfolding later settingOf majority historiesLater count sum oneIf committed held historyOf undamagedLater imageFrom noFlights epochAt epochOf logLength lowest isBlank payloadIn payloadAt payloadA payloadB same firstIndex damaged
-damaged-B = record {
+damaged-B = damaged-cards (named later) refl undamagedLater noFlights (decodeWith ofLater (firstsOf undamagedLater) laterCluster) 8 2 payloadB (record {
   before = before-later;
   damage = damage-later;
   agree = agreed 3 2 (paidFrom 7) historiesLater alike-later;
   onMajority = omega arith;
   leaderHeld = refl;
-}
+})

@@ -20,7 +20,7 @@ use Rattle.demand3.specs.Interrupted.{Interrupted, old, new, torn, LeftB
 use Rattle.protocol.proofs.Due.{due-facts}
 use Rattle.protocol.proofs.Reach.{here, made, tore, reach-on}
 use Rattle.protocol.proofs.Runs.{reach-steps}
-use Rattle.protocol.proofs.Keeps.{due-target, due-slot}
+use Rattle.protocol.proofs.Keeps.{due-cards, due-target, due-slot}
 use Rattle.protocol.proofs.StepLaws.{next-means, steps-mean}
 use Rattle.protocol.proofs.Reached.{Reached, steps-reached}
 use Rattle.protocol.proofs.Reach as reach
@@ -38,9 +38,10 @@ module _ (S : Setting) (low : S .leader < S .shape .n) where
       let u = due-facts S (decode shape b) (storeEntry c k d) e in
       let cn = due-target S (decode shape b) (storeEntry c k d) low (u .plan) (u .is-due) .below in
       let km = due-slot S (decode shape b) (storeEntry c k d) (u .is-due) in
-      let w = entry-put shape b size c k t cn km l ∙ ap (λ (y : Entry). put (decode shape b) c (setEntry (decode shape b c) k y)) x in
+      let both = due-cards S (decode shape b) c k d (u .plan) (u .is-due) in
+      let w = entry-put shape b size c k t cn (both .to) km l ∙ ap (λ (y : Entry). put (decode shape b) c (setEntry (decode shape b c) k y)) x in
       record {
-        size = length-in-image shape b size c cn (entryAt shape k) t (omega (arith, entry-fits shape (suc c) k km));
+        size = length-in-image shape b size c cn (entryAt shape k) t (omega (arith, entry-fits shape (suc c) k (both .to) km));
         reach = rw w (tore (storeEntry c k d) e (reach.torn t) here);
       }
 

@@ -2,6 +2,7 @@
 pub mod AfterCalls
 pub mod Base
 pub mod BeforeLaws
+pub mod CardsLaws
 pub mod ReadableLaws
 pub mod Committed
 pub mod PartA
@@ -16,3 +17,4 @@ pub mod ExampleDamage
 pub mod EvenDamage
 pub mod EarliestLaws
 pub mod LaterDamage
+pub mod WitnessDamage

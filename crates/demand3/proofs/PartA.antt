@@ -1,5 +1,5 @@
 -- Part A of the claim, in the results and bytes of calls.
-use Prim.Native.Nat.{ℕ, suc}
+use Prim.Native.Nat.{ℕ, suc, _<_}
 use mathlib.Core.Path.{_≡_, refl, sym, ap, _∙_}
 use mathlib.Core.Bool.{false}
 use mathlib.Core.List.{List}
@@ -19,9 +19,9 @@ use Rattle.protocol.specs.StepBytes.{nextIn, stepsBytes, storesBytes}
 use Rattle.demand3.specs.CallList.{Request, CallList}
 use Rattle.protocol.specs.Call.{plan, run, Numbers, named, refusalIn, refusalOf}
 use Rattle.protocol.specs.CallResult.{Result, refused, waiting, recovered, runResult, acceptedResult, callResult, callBytes, bound, withoutCount, runEnd, isSpent}
-use Rattle.demand3.specs.Claim.{PartA}
+use Rattle.demand3.specs.Claim.{readable, PartA}
 use Rattle.protocol.proofs.CallLaws.{Standing, isRefused, isWaiting, isReady, standing, accepted, run-bytes}
-use Rattle.demand3.proofs.ReadableLaws.{readable-view}
+use Rattle.demand3.proofs.ReadableLaws.{readable-view, spoilt-unreadable}
 use Rattle.protocol.proofs.FirstLaws.{reach-header}
 use Rattle.protocol.proofs.Reached.{After}
 use Rattle.demand3.proofs.AfterCalls.{calls-reach, unchanged}
@@ -42,6 +42,7 @@ same-still N b r s q = record {
   size = refl;
   away = λ c cn f. refl;
   readables = λ c cn. refl;
+  spoilt = λ c k z cn km w x. (spoilt-unreadable N b c k z km w x, refl);
   fullBytes = refl;
   fullEnds = refl;
   bytes = λ i j u v. s .bytes i ∙ sym (s .bytes j);
@@ -85,6 +86,10 @@ module _ (N : Numbers) (b₀ b : Bytes) (e : refusalIn N b₀ ≡ 0) (l : ℕ) (
   unfolding withoutCount runResult
   recovers-first j u = ap withoutCount (ready-run N b₀ e l x j) ∙ rw (none-left N b₀ e l x j u)
 
+  keeps : (c : ℕ) → c < N .shape .n → readable N b₀ c ≡ false → imagePart (N .shape) b c ≡ imagePart (N .shape) b₀ c
+  unfolding settingOf
+  keeps c cn f = a .facts .away c cn (sym (readable-view N b₀ (accepted N b₀ e) c cn) ∙ f)
+
   ready-a : PartA N b₀ b
   unfolding settingOf runEnd
   ready-a =
@@ -98,7 +103,8 @@ module _ (N : Numbers) (b₀ b : Bytes) (e : refusalIn N b₀ ≡ 0) (l : ℕ) (
         refusals = a .accepts ∙ sym e;
         headers = λ c cn. header-bytes (N .shape) b b₀ c (h c);
         size = a .size ∙ sym (accepted N b₀ e .size);
-        away = λ c cn f. a .facts .away c cn (sym (readable-view N b₀ (accepted N b₀ e) c cn) ∙ f);
+        away = keeps;
+        spoilt = λ c k z cn km w x. let f = spoilt-unreadable N b₀ c k z km w x in (f, keeps c cn f);
         readables = λ c cn. readable-view N b (accepted N b (a .accepts)) c cn ∙ a .facts .readables c ∙ sym (readable-view N b₀ (accepted N b₀ e) c cn);
         fullBytes = alike (bound N) (bound N) full full₀;
         fullEnds = recovers (bound N) full ∙ sym (recovers-first (bound N) full₀);

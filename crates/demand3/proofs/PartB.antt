@@ -1,20 +1,21 @@
 -- Part B of the claim, in bytes.
 use Prim.Native.Nat.{ℕ, suc, _+_, _-_, _<_}
 use mathlib.Core.Path.{_≡_, refl, sym, ap, _∙_}
-use mathlib.Core.Bool.{Bool, true, false}
-use mathlib.Core.List.{List}
+use mathlib.Core.Bool.{Bool, true, false, true≢false}
+use mathlib.Core.List.{List, []}
 use mathlib.Core.Option.{none}
 use native.Mathlib.Omega.{arith}
 use native.Mathlib.Decide.{ℕ-discrete}
 use Rattle.slices.specs.Parts.{Bytes, part}
-use Rattle.record.specs.Meaning.{firstIndex, intact, readRecord, readEntry}
+use Rattle.record.specs.Meaning.{firstIndex, Record, good, blank, bad, Entry, intact, broken, readRecord, readEntry}
 use Rattle.record.proofs.RecordLaws.{good-for}
 use Rattle.record.proofs.EntryLaws.{intact-for}
 use Rattle.image.specs.Image.{index, entryAt}
-use Rattle.image.specs.View.{viewOf}
+use Rattle.image.specs.View.{viewOf, seenAs, condition, conditionAt, epochOf, epochAt, isBlank, isLost}
 use Rattle.image.specs.Cluster.{Cluster, imagePart, firstAt, decode, decodeWith}
-use Rattle.image.proofs.ClusterLaws.{record-means, entry-means, entry-part, with-header, with-same, entry-with, first-at}
-use Rattle.planner.specs.Setting.{Setting, settingOf, viewsOf}
+use Rattle.image.proofs.ViewLaws.{readable-sound, used-below}
+use Rattle.image.proofs.ClusterLaws.{record-means, entry-means, none-means, entry-part, with-header, with-same, entry-with, first-at}
+use Rattle.planner.specs.Setting.{Setting, settingOf, witness, viewsOf}
 use Rattle.planner.specs.Plan.{viewsIn}
 use Rattle.planner.specs.Rules.{Ready, answer, end, firstWaiting}
 use Rattle.protocol.specs.StepBytes.{nextIn, stepsBytes}
@@ -29,8 +30,8 @@ use Rattle.planner.proofs.FirstLaws.{same-elim}
 use Rattle.protocol.proofs.HoldingLaws.{Holding}
 use Rattle.protocol.proofs.Runs.{reach-steps}
 use Rattle.demand3.proofs.BeforeLaws.{damaged-cluster}
-use Rattle.demand3.proofs.Base.{held-elim, view-first, base-holding, base-payload, used-held, Linked, Ground}
-use Rattle.demand3.proofs.Committed.{WholeWith, kept-first, kept-used, kept-entry, used-payload, stands, ready-first, waits-first}
+use Rattle.demand3.proofs.Base.{left-fits, held-elim, view-first, base-holding, base-payload, used-held, Linked, Ground}
+use Rattle.demand3.proofs.Committed.{StandsIn, kept-first, kept-used, kept-entry, used-payload, stands, ready-first, waits-first}
 use Rattle.protocol.proofs.Reached.{Reached, After}
 use Rattle.protocol.proofs.StepLaws.{steps-mean}
 use Rattle.protocol.proofs.CallLaws.{Standing, isRefused, isWaiting, isReady, standing, accepted, planning-refused, step-refused, planning-result, run-bytes}
@@ -42,34 +43,51 @@ use Rattle.protocol.proofs.StillLaws.{still-waiting}
 use Rattle.protocol.proofs.ReadyLaws.{ready-plan, ready-step}
 use Rattle.demand3.proofs.PartA.{none-left}
 
+-- a witness's used slot has a good record: a bad one is refused
+used-good : (r : Record) (x : Entry) (e : ℕ) → x ≡ broken [] → isBlank r ≡ false → isLost (condition r x) ≡ false → epochOf r x ≡ e → r ≡ good e
+unfolding isBlank condition isLost epochOf
+used-good (good f) x e n u l q = ap good q
+used-good blank x e n u l q = absurd (true≢false u)
+used-good (bad z) x e n u l q = absurd (true≢false (rw n at l))
+
+standing-record : (S : Setting) (b : Bytes) (c k e : ℕ) (p : Bytes) → k < S .shape .m → StandsIn S (decode (S .shape) b) c k e p → (w : Bool) → witness S c ≡ w
+    → decode (S .shape) b c .records k ≡ good e
+unfolding viewsOf seenAs viewOf epochAt conditionAt
+standing-record S b c k e p km s false q = s .whole q .rec
+standing-record S b c k e p km s true q =
+    used-good (decode (S .shape) b c .records k) (decode (S .shape) b c .entries k) e (none-means (S .shape) b c k q)
+    (used-below (S .shape .m) (decode (S .shape) b c) k (s .used .within))
+    (readable-sound (S .present c) (S .shape .m) (decode (S .shape) b c) (s .ok) .kept k km)
+    (s .used .epoch)
+
 -- what an entry's bytes mean in the cluster, by the index of the slot
 module _ (S : Setting) (b : Bytes) (c k : ℕ) (km : k < S .shape .m) (I : ℕ) (at : index (firstAt (S .shape) b c) k ≡ I) where
-  pub entry-in : decode (S .shape) b c .entries k ≡ readEntry I (entryIn S b c k)
+  pub entry-in : witness S c ≡ false → decode (S .shape) b c .entries k ≡ readEntry I (entryIn S b c k)
   unfolding entryIn
-  entry-in = entry-means (S .shape) b c k km ∙ ap (λ (j : ℕ). readEntry j (entryIn S b c k)) at
+  entry-in card = entry-means (S .shape) b c k card km ∙ ap (λ (j : ℕ). readEntry j (entryIn S b c k)) at
 
   pub record-in : decode (S .shape) b c .records k ≡ readRecord I (recordIn S b c k)
   unfolding recordIn
   record-in = record-means (S .shape) b c k km ∙ ap (λ (j : ℕ). readRecord j (recordIn S b c k)) at
 
-  pub written : (e : ℕ) (p : Bytes) → WholeWith (decode (S .shape) b c) k e p → Stands S b c I e p
+  pub written : (e : ℕ) (p : Bytes) → StandsIn S (decode (S .shape) b) c k e p → Stands S b c I e p
   written e p w = record {
     slot = k;
     at = at;
-    rec = good-for I (recordIn S b c k) e (sym record-in ∙ w .rec) .bytes;
-    ent = intact-for I (entryIn S b c k) e p (sym entry-in ∙ w .ent) .bytes;
+    rec = good-for I (recordIn S b c k) e (sym record-in ∙ standing-record S b c k e p km w (witness S c) refl) .bytes;
+    ent = λ card. intact-for I (entryIn S b c k) e p (sym (entry-in card) ∙ w .whole card .ent) .bytes;
   }
 
 -- an image that is the same has the same entries
-entry-same : (S : Setting) (a b : Bytes) (c k : ℕ) → k < S .shape .m → imagePart (S .shape) a c ≡ imagePart (S .shape) b c → entryIn S a c k ≡ entryIn S b c k
+entry-same : (S : Setting) (a b : Bytes) (c k : ℕ) → witness S c ≡ false → k < S .shape .m → imagePart (S .shape) a c ≡ imagePart (S .shape) b c → entryIn S a c k ≡ entryIn S b c k
 unfolding entryIn
-entry-same S a b c k km e =
+entry-same S a b c k card km e =
     let Z = S .shape in
-    sym (entry-part Z a c k km) ∙ ap (λ (t : Bytes). part t (entryAt Z k) 240) e ∙ entry-part Z b c k km
+    sym (entry-part Z a c k card km) ∙ ap (λ (t : Bytes). part t (entryAt Z k) 240) e ∙ entry-part Z b c k card km
 
 -- the first index that is seen of a replica is its header's
 seen-first : (S : Setting) (b : Bytes) (c : ℕ) → viewsIn S b c .first ≡ firstAt (S .shape) b c
-unfolding viewsIn viewsOf viewOf
+unfolding viewsIn viewsOf seenAs viewOf
 seen-first S b c = first-at (S .shape) b c
 
 -- taken apart under the histories' first indices
@@ -79,6 +97,7 @@ Under S H b = decodeWith (S .shape) (λ c. H c .first) b
 linked : (S : Setting) (H : ℕ → History) (b : Bytes) → Linked S (decode (S .shape) b) (Under S H b) H
 linked S H b = record {
   header = λ c. with-header (S .shape) (λ c. H c .first) b c;
+  bare = λ c k w. none-means (S .shape) b c k w;
   same = λ c e. with-same (S .shape) (λ c. H c .first) b c (sym (first-at (S .shape) b c) ∙ unfold firstIndex in ap firstIndex e);
 }
 
@@ -86,13 +105,13 @@ linked S H b = record {
 module _ (S : Setting) (b : Bytes) (H : ℕ → History) (I e : ℕ) (p : Bytes) (s : Supposed S (Under S H b) H I e p) where
   held-slot : (c k : ℕ) → c < S .shape .n → held I e (H c) ≡ true → index (H c .first) k ≡ I → k < S .shape .m
   unfolding index
-  held-slot c k cn x at = omega (arith, held-elim I e (H c) x .within .high, s .damaged c cn .fits, at)
+  held-slot c k cn x at = omega (arith, held-elim I e (H c) x .within .high, left-fits (s .damaged c cn), at)
 
-  payload-there : (c k : ℕ) (q : Bytes) → c < S .shape .n → held I e (H c) ≡ true → index (H c .first) k ≡ I → readEntry I (entryIn S b c k) ≡ intact e q → q ≡ p
+  payload-there : (c k : ℕ) (q : Bytes) → c < S .shape .n → witness S c ≡ false → held I e (H c) ≡ true → index (H c .first) k ≡ I → readEntry I (entryIn S b c k) ≡ intact e q → q ≡ p
   unfolding entryIn index
-  payload-there c k q cn y at x =
-      base-payload S (decode (S .shape) b) (Under S H b) H I e p s (linked S H b) c k q cn y at
-      (entry-with (S .shape) (λ c. H c .first) b c k (held-slot c k cn y at) ∙ ap (λ (j : ℕ). readEntry j (entryIn S b c k)) at ∙ x)
+  payload-there c k q cn card y at x =
+      base-payload S (decode (S .shape) b) (Under S H b) H I e p s (linked S H b) c k q cn card y at
+      (entry-with (S .shape) (λ c. H c .first) b c k card (held-slot c k cn y at) ∙ ap (λ (j : ℕ). readEntry j (entryIn S b c k)) at ∙ x)
 
 -- where planning is refused no byte has changed: what is supposed says it
 module _ (N : Numbers) (b : Bytes) (h : refusalIn N b ≡ 0 → ⊥) (H : ℕ → History) (I e : ℕ) (p : Bytes) (s : Supposed (named N) (Under (named N) H b) H I e p) where
@@ -117,12 +136,12 @@ module _ (N : Numbers) (b : Bytes) (h : refusalIn N b ≡ 0 → ⊥) (H : ℕ �
       let z = planning-refused N b h in
       record {
         used = held-there;
-        entry = λ c k q cn y at x. refl;
+        entry = λ c k q cn card y at x. refl;
         heldPayload = payload-there (named N) b H I e p s;
-        usedPayload = λ c q cn rd u x.
+        usedPayload = λ c q cn card rd u x.
             let ok = readable-seen N b c rd in
             let f = view-first (named N) F G H I e p s (linked (named N) H b) c cn ok in
-            payload-there (named N) b H I e p s c (u .slot) q cn
+            payload-there (named N) b H I e p s c (u .slot) q cn card
             (used-held (named N) F G H I e p s (linked (named N) H b) c (u .slot) cn ok (rw (← seen-first (named N) b c) at (u .at)) (record { within = u .within; epoch = u .epoch })) (omega (arith, f, u .at, seen-first (named N) b c)) x;
         isReady = λ c k y. absurd (h y);
         waits = λ k y. absurd (h y);
@@ -153,7 +172,7 @@ module _ (N : Numbers) (b₀ b : Bytes) (x : refusalIn N b₀ ≡ 0) (v : After 
   unfolding settingOf
   slot =
       let y = held-elim I e (H (S .leader)) (s .leaderHeld) .within in
-      omega (arith, y .high, y .low, leader-first, s .damaged (S .leader) low .fits)
+      omega (arith, y .high, y .low, leader-first, left-fits (s .damaged (S .leader) low))
 
   at : L + K ≡ I
   at = omega (arith, leader-first, held-elim I e (H (S .leader)) (s .leaderHeld) .within .low)
@@ -193,31 +212,31 @@ module _ (N : Numbers) (b₀ b : Bytes) (x : refusalIn N b₀ ≡ 0) (v : After 
   first-ready l y = v .facts .answers ∙ says-ready (answer S (viewsIn S b₀)) l (sym (planning-result N b₀ x) ∙ y)
 
   -- an entry that was intact with e stays, on a readable replica and on any other
-  kept : (c k : ℕ) (q : Bytes) → c < N .shape .n → held I e (H c) ≡ true → index (H c .first) k ≡ I → readEntry I (entryIn S b₀ c k) ≡ intact e q → entryIn S b c k ≡ entryIn S b₀ c k
+  kept : (c k : ℕ) (q : Bytes) → c < N .shape .n → witness S c ≡ false → held I e (H c) ≡ true → index (H c .first) k ≡ I → readEntry I (entryIn S b₀ c k) ≡ intact e q → entryIn S b c k ≡ entryIn S b₀ c k
   unfolding viewsIn settingOf
-  kept c k q cn h own y = go (viewsIn S b₀ c .readable) refl
+  kept c k q cn card h own y = go (viewsIn S b₀ c .readable) refl
     where
       go : (t : Bool) → viewsIn S b₀ c .readable ≡ t → entryIn S b c k ≡ entryIn S b₀ c k
       go true ok =
           let k-is = own-slot c k cn ok own in
           let y′ = rw k-is at y in
-          let z = kept-entry S F₀ H I e p K low g (r .reach) c q cn ok h (entry-in S b₀ c K slot I (first-at-slot c cn ok) ∙ y′) in
-          rw k-is (intact-for I (entryIn S b c K) e q (sym (entry-in S b c K slot I (now-at c cn ok)) ∙ z) .bytes ∙ sym (intact-for I (entryIn S b₀ c K) e q y′ .bytes))
-      go false away = entry-same S b b₀ c k (held-slot S b₀ H I e p s c k cn h own) (v .facts .away c cn away)
+          let z = kept-entry S F₀ H I e p K low g (r .reach) c q cn ok h (entry-in S b₀ c K slot I (first-at-slot c cn ok) card ∙ y′) in
+          rw k-is (intact-for I (entryIn S b c K) e q (sym (entry-in S b c K slot I (now-at c cn ok) card) ∙ z) .bytes ∙ sym (intact-for I (entryIn S b₀ c K) e q y′ .bytes))
+      go false away = entry-same S b b₀ c k card (held-slot S b₀ H I e p s c k cn h own) (v .facts .away c cn away)
 
-  now-payload : (c : ℕ) (q : Bytes) → c < N .shape .n → viewsIn S b₀ c .readable ≡ true → Holding K e (viewsIn S b c) → readEntry I (entryIn S b c K) ≡ intact e q → q ≡ p
+  now-payload : (c : ℕ) (q : Bytes) → c < N .shape .n → witness S c ≡ false → viewsIn S b₀ c .readable ≡ true → Holding K e (viewsIn S b c) → readEntry I (entryIn S b c K) ≡ intact e q → q ≡ p
   unfolding viewsIn settingOf
-  now-payload c q cn ok u y = used-payload S F₀ H I e p K low g (r .reach) c q cn ok u (entry-in S b c K slot I (now-at c cn ok) ∙ y)
+  now-payload c q cn card ok u y = used-payload S F₀ H I e p K low g (r .reach) c q cn card ok u (entry-in S b c K slot I (now-at c cn ok) card ∙ y)
 
-  held-payload : (c k : ℕ) (q : Bytes) → c < N .shape .n → held I e (H c) ≡ true → index (H c .first) k ≡ I → readEntry I (entryIn S b c k) ≡ intact e q → q ≡ p
+  held-payload : (c k : ℕ) (q : Bytes) → c < N .shape .n → witness S c ≡ false → held I e (H c) ≡ true → index (H c .first) k ≡ I → readEntry I (entryIn S b c k) ≡ intact e q → q ≡ p
   unfolding viewsIn settingOf
-  held-payload c k q cn h own y = go (viewsIn S b₀ c .readable) refl
+  held-payload c k q cn card h own y = go (viewsIn S b₀ c .readable) refl
     where
       go : (t : Bool) → viewsIn S b₀ c .readable ≡ t → q ≡ p
-      go true ok = now-payload c q cn ok (kept-used S F₀ H I e p K low g (r .reach) c cn ok h) (rw (own-slot c k cn ok own) at y)
+      go true ok = now-payload c q cn card ok (kept-used S F₀ H I e p K low g (r .reach) c cn ok h) (rw (own-slot c k cn ok own) at y)
       go false away =
-          payload-there S b₀ H I e p s c k q cn h own
-          (ap (readEntry I) (sym (entry-same S b b₀ c k (held-slot S b₀ H I e p s c k cn h own) (v .facts .away c cn away))) ∙ y)
+          payload-there S b₀ H I e p s c k q cn card h own
+          (ap (readEntry I) (sym (entry-same S b b₀ c k card (held-slot S b₀ H I e p s c k cn h own) (v .facts .away c cn away))) ∙ y)
 
   leader-slot : (k : ℕ) → index (firstAt (N .shape) b₀ (S .leader)) k ≡ I → k ≡ K
   unfolding index settingOf
@@ -239,15 +258,15 @@ module _ (N : Numbers) (b₀ b : Bytes) (x : refusalIn N b₀ ≡ 0) (v : After 
         used = λ c cn h rd. let u = kept-used S F₀ H I e p K low g (r .reach) c cn (seen c rd) h in record { slot = K; at = now-at c cn (seen c rd); within = u .within; epoch = u .epoch };
         entry = kept;
         heldPayload = held-payload;
-        usedPayload = λ c q cn rd u y.
+        usedPayload = λ c q cn card rd u y.
             let z : u .slot ≡ K = unfold index in omega (arith, u .at, now-at c cn (seen c rd)) in
-            now-payload c q cn (seen c rd) (rw (← z) (record { within = u .within; epoch = u .epoch })) (rw z at y);
+            now-payload c q cn card (seen c rd) (rw (← z) (record { within = u .within; epoch = u .epoch })) (rw z at y);
         isReady = λ c k y own f cn h others.
             let z : k ≡ K = leader-slot k own in
-            ready-plan N b₀ x (end S (viewsIn S b₀)) (ready-first S F₀ H I e p K low g (a .readable) (a .firsts) c cn (rw z at h) (rw z at f) (λ j l d. others j l (λ q. d (q ∙ z))));
+            ready-plan N b₀ x (end S (viewsIn S b₀)) (ready-first S F₀ H I e p K low g (a .leads) (a .firsts) c cn (rw z at h) (rw z at f) (λ j l d. others j l (λ q. d (q ∙ z))));
         waits = λ k y own f none-has.
             let z : k ≡ K = leader-slot k own in
-            let w = waits-first S F₀ H I e p K low g (a .readable) (a .firsts) (rw z at f) (λ c cn. rw z at (none-has c cn)) in
+            let w = waits-first S F₀ H I e p K low g (a .leads) (a .firsts) (rw z at f) (λ c cn. rw z at (none-has c cn)) in
             let still = still-waiting N b₀ x (firstWaiting S (viewsIn S b₀)) w in
             let kept-bytes = v .facts .waiting (firstWaiting S (viewsIn S b₀)) w in
             record {

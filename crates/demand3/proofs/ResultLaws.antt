@@ -60,12 +60,12 @@ module _ (r : ℕ) where
 
   pub never : (N : Numbers) (q : Call) (b : Bytes) → refusalIn N b ≡ 0 → acceptedResult N q b ≡ refused r → ⊥
   unfolding acceptedResult
-  never N (plan p t) b e x = never-ready (answer (named N) (viewsIn (named N) b)) (not-refused (named N) b (accepted N b e .readable) (accepted N b e .firsts)) x
+  never N (plan p t) b e x = never-ready (answer (named N) (viewsIn (named N) b)) (not-refused (named N) b (accepted N b e .leads) (accepted N b e .firsts)) x
   never N step b e x =
-      never-answered (answer (named N) (viewsIn (named N) b)) (stepResult (nextIn (named N) b)) (not-refused (named N) b (accepted N b e .readable) (accepted N b e .firsts)) (never-step _) x
+      never-answered (answer (named N) (viewsIn (named N) b)) (stepResult (nextIn (named N) b)) (not-refused (named N) b (accepted N b e .leads) (accepted N b e .firsts)) (never-step _) x
   never N (run j) b e x =
       never-answered (answer (named N) (viewsIn (named N) b)) (runResult (storesBytes (named N) j b) (nextIn (named N) (stepsBytes (named N) j b)))
-      (not-refused (named N) b (accepted N b e .readable) (accepted N b e .firsts)) (never-run _ _) x
+      (not-refused (named N) b (accepted N b e .leads) (accepted N b e .firsts)) (never-run _ _) x
 
 -- planning says ready, or a step says that nothing is outstanding
 pub says-ready : (a : Answer) (l : ℕ) → readyResult a ≡ ready l → a ≡ Ready l

@@ -10,9 +10,9 @@ use Rattle.image.specs.Image.{Image}
 use Rattle.image.specs.Cluster.{Cluster}
 use Rattle.image.specs.View.{logLength, epochAt}
 use Rattle.image.specs.Verdict.{verdictAt}
-use Rattle.planner.specs.Setting.{Setting}
+use Rattle.planner.specs.Setting.{Setting, witness}
 use Rattle.planner.specs.Rules.{majority}
-use Rattle.demand3.specs.Supposed.{History, Agree, held, committed}
+use Rattle.demand3.specs.Supposed.{History, Agree, held, committed, OnCard}
 
 -- what was in flight on a replica at the power failure
 pub record Flight : Type 0 where
@@ -35,6 +35,20 @@ pub record Before (m : ℕ) (f : Flight) (i : Image) : Type 0 where
   pub stored : (k : ℕ) → k < logLength m i → f .inFlight k ≡ false → verdictAt m i k ≡ 1
   pub flying : (k : ℕ) → k < logLength m i → f .inFlight k ≡ true → FlightSlot (f .payload k) (i .records k) (i .entries k)
 
+-- a good record
+pub data GoodRecord : Record → Type 0 where
+  isGood : {e : ℕ} → GoodRecord (good e)
+
+-- a witness's image before the damage (02, Seven): every used slot has a good record, in flight or not, since a record is written whole or
+-- not at all
+pub record WitnessBefore (m : ℕ) (i : Image) : Type 0 where
+  pub records : (k : ℕ) → k < logLength m i → GoodRecord (i .records k)
+
+-- a card's, or a witness's
+pub data BeforeAs (m : ℕ) (f : Flight) (i : Image) : Bool → Type 0 where
+  cardBefore : Before m f i → BeforeAs m f i false
+  witnessBefore : WitnessBefore m i → BeforeAs m f i true
+
 -- what damage makes of a slot's record and entry. A record that stands without its entry counts as a damaged entry, so it is kept
 pub data SlotDamage : Record → Entry → Record → Entry → Type 0 where
   spared : {r : Record} {x : Entry} → SlotDamage r x r x
@@ -44,6 +58,11 @@ pub data SlotDamage : Record → Entry → Record → Entry → Type 0 where
   entryDamaged : {e : ℕ} {x y : Entry} → NotIntact e y → SlotDamage (good e) x (good e) y
   -- the entry of an unused slot, into anything
   unusedDamaged : {x y : Entry} → SlotDamage blank x blank y
+
+-- what it makes of a witness's record: a good one into something neither blank nor good
+pub data RecordDamage : Record → Record → Type 0 where
+  recordSpared : {r : Record} → RecordDamage r r
+  recordSpoilt : {e : ℕ} {b : Bytes} → RecordDamage (good e) (bad b)
 
 -- a header, into one that is refused by 4
 pub data HeaderDamage : Header → Header → Type 0 where
@@ -55,11 +74,21 @@ pub record Damage (m : ℕ) (i j : Image) : Type 0 where
   pub header : HeaderDamage (i .header) (j .header)
   pub slots : (k : ℕ) → k < m → SlotDamage (i .records k) (i .entries k) (j .records k) (j .entries k)
 
+-- a witness's image, the same way
+pub record WitnessDamage (m : ℕ) (i j : Image) : Type 0 where
+  pub header : HeaderDamage (i .header) (j .header)
+  pub records : (k : ℕ) → k < m → RecordDamage (i .records k) (j .records k)
+
+-- a card's, or a witness's
+pub data DamageAs (m : ℕ) (i j : Image) : Bool → Type 0 where
+  cardDamage : Damage m i j → DamageAs m i j false
+  witnessDamage : WitnessDamage m i j → DamageAs m i j true
+
 unfoldable pub payloadIn : Entry → Bytes
 payloadIn (intact e p) = p
 payloadIn (broken b) = []
 
--- what slot k held, or was being written to it
+-- what slot k held, or was being written to it. A witness holds none
 unfoldable pub payloadAt : Flight → Image → ℕ → Bytes
 payloadAt f i k = cond (f .inFlight k) (f .payload k) (payloadIn (i .entries k))
 
@@ -80,8 +109,9 @@ firstsOf F c = firstIndex (F c .header)
 -- what demand 3 supposes of payload p at index j under epoch e
 pub record DamagedCluster (S : Setting) (F : Cluster) (f : ℕ → Flight) (G : Cluster) (j e : ℕ) (p : Bytes) : Type 0 where
   -- cluster F before the damage, with f in flight, became G, which is taken apart under the indices at which the logs of F began
-  pub before : (c : ℕ) → c < S .shape .n → Before (S .shape .m) (f c) (F c)
-  pub damage : (c : ℕ) → c < S .shape .n → Damage (S .shape .m) (F c) (G c)
-  pub agree : Agree (S .shape .n) (λ c. historyOf (S .shape .m) (f c) (F c))
-  pub onMajority : majority (S .shape .n) ≤ count (λ c. committed j e p (historyOf (S .shape .m) (f c) (F c))) (S .shape .n)
+  pub before : (c : ℕ) → c < S .shape .n → BeforeAs (S .shape .m) (f c) (F c) (witness S c)
+  pub damage : (c : ℕ) → c < S .shape .n → DamageAs (S .shape .m) (F c) (G c) (witness S c)
+  pub agree : Agree S (λ c. historyOf (S .shape .m) (f c) (F c))
+  pub onMajority : majority (S .shape .n) ≤ count (λ c. committed (witness S c) j e p (historyOf (S .shape .m) (f c) (F c))) (S .shape .n)
+  pub onCard : OnCard S (λ c. historyOf (S .shape .m) (f c) (F c)) j e p
   pub leaderHeld : held j e (historyOf (S .shape .m) (f (S .leader)) (F (S .leader))) ≡ true

@@ -7,11 +7,12 @@ use lib.Dec.{eqb}
 use lib.ListN.{length}
 use Rattle.slices.specs.Parts.{Bytes, part}
 use Rattle.record.specs.Layout.{headerSize, recordSize, entrySize, recordBytes, entryBytes}
-use Rattle.record.specs.Meaning.{intact, readEntry}
+use Rattle.record.specs.Meaning.{bad, intact, readEntry}
 use Rattle.image.specs.Image.{index, recordAt, entryAt}
 use Rattle.image.specs.View.{readRefusal}
-use Rattle.image.specs.Cluster.{imageAt, imagePart, firstAt}
-use Rattle.planner.specs.Setting.{Setting, has}
+use Rattle.image.specs.Cluster.{imageAt, imagePart, firstAt, decode}
+use Rattle.search.specs.Sets.{has}
+use Rattle.planner.specs.Setting.{Setting, witness}
 use Rattle.planner.specs.Plan.{viewsIn}
 use Rattle.planner.specs.Rules.{isFaulty, have, rule, isWait, end}
 use Rattle.demand3.specs.Interrupted.{LeftBytes}
@@ -37,12 +38,12 @@ pub record UsedUnder (S : Setting) (b : Bytes) (c i e : ℕ) : Type 0 where
   pub within : slot < viewsIn S b c .length
   pub epoch : viewsIn S b c .epoch slot ≡ e
 
--- record and entry of index i are the writer's, at some slot
+-- record and entry of index i are the writer's, at some slot; on a witness its record is (02, Seven)
 pub record Stands (S : Setting) (b : Bytes) (c i e : ℕ) (p : Bytes) : Type 0 where
   pub slot : ℕ
   pub at : index (firstAt (S .shape) b c) slot ≡ i
   pub rec : recordIn S b c slot ≡ recordBytes e i
-  pub ent : entryIn S b c slot ≡ entryBytes e i p
+  pub ent : witness S c ≡ false → entryIn S b c slot ≡ entryBytes e i p
 
 -- a call that ends by itself
 pub record Uncut (N : Numbers) (b : Bytes) : Type 0 where
@@ -80,6 +81,9 @@ pub record PartA (N : Numbers) (b₀ b : Bytes) : Type 0 where
   pub size : length b ≡ length b₀
   pub away : (c : ℕ) → c < N .shape .n → readable N b₀ c ≡ false → imagePart (N .shape) b c ≡ imagePart (N .shape) b₀ c
   pub readables : (c : ℕ) → c < N .shape .n → readable N b c ≡ readable N b₀ c
+  -- a witness with a bad record is unreadable, and keeps every byte (02, Seven)
+  pub spoilt : (c k : ℕ) (z : Bytes) → c < N .shape .n → k < N .shape .m → witness (named N) c ≡ true → decode (N .shape) b₀ c .records k ≡ bad z
+      → (readable N b₀ c ≡ false) × (imagePart (N .shape) b c ≡ imagePart (N .shape) b₀ c)
   -- a run of budget 3 × n × m ends as from the first cluster, every byte alike, though its count may differ
   pub fullBytes : callBytes N (run (bound N)) b ≡ callBytes N (run (bound N)) b₀
   pub fullEnds : withoutCount (callResult N (run (bound N)) b) ≡ withoutCount (callResult N (run (bound N)) b₀)
@@ -97,15 +101,15 @@ pub record Waits (N : Numbers) (b₀ b : Bytes) : Type 0 where
 
 -- of payload p at index i under epoch e. Slot k of a log that began at index f has index f + k
 pub record PartB (N : Numbers) (b₀ : Bytes) (H : ℕ → History) (i e : ℕ) (p : Bytes) (b : Bytes) : Type 0 where
-  -- a readable present replica whose log held it keeps it used under e; each whose log held it keeps the entry's bytes if they were intact
-  -- with e. (The others keep every byte: `away`. Where a header is damaged no index can be read)
+  -- a readable present replica whose log held it keeps it used under e; each card whose log held it keeps the entry's bytes if they were
+  -- intact with e. (The others keep every byte: `away`. Where a header is damaged no index can be read)
   pub used : (c : ℕ) → c < N .shape .n → held i e (H c) ≡ true → readable N b₀ c ≡ true → UsedUnder (named N) b c i e
-  pub entry : (c k : ℕ) (q : Bytes) → c < N .shape .n → held i e (H c) ≡ true → index (H c .first) k ≡ i
+  pub entry : (c k : ℕ) (q : Bytes) → c < N .shape .n → witness (named N) c ≡ false → held i e (H c) ≡ true → index (H c .first) k ≡ i
       → readEntry i (entryIn (named N) b₀ c k) ≡ intact e q → entryIn (named N) b c k ≡ entryIn (named N) b₀ c k
-  -- any entry there intact with e has the payload: where a log held it, and where it is used under e
-  pub heldPayload : (c k : ℕ) (q : Bytes) → c < N .shape .n → held i e (H c) ≡ true → index (H c .first) k ≡ i
+  -- any entry there intact with e has the payload: where a card's log held it, and where a card has it used under e
+  pub heldPayload : (c k : ℕ) (q : Bytes) → c < N .shape .n → witness (named N) c ≡ false → held i e (H c) ≡ true → index (H c .first) k ≡ i
       → readEntry i (entryIn (named N) b c k) ≡ intact e q → q ≡ p
-  pub usedPayload : (c : ℕ) (q : Bytes) → c < N .shape .n → readable N b₀ c ≡ true → (u : UsedUnder (named N) b c i e)
+  pub usedPayload : (c : ℕ) (q : Bytes) → c < N .shape .n → witness (named N) c ≡ false → readable N b₀ c ≡ true → (u : UsedUnder (named N) b c i e)
       → readEntry i (entryIn (named N) b c (u .slot)) ≡ intact e q → q ≡ p
   -- the leader's entry is faulty and planning is not refused: with a copy within reach and no other slot that stays waiting the plan is
   -- ready; with no copy within reach it waits

@@ -7,6 +7,7 @@ use Rattle.image.specs.Cluster.{Cluster, decode, decodeWith}
 use Rattle.planner.specs.Setting.{Setting}
 use Rattle.demand3.specs.Supposed.{History, Supposed}
 use Rattle.demand3.specs.Before.{Flight, historyOf, firstsOf, DamagedCluster}
+use Rattle.demand3.specs.Cards.{WithoutWitnesses}
 use Rattle.demand3.specs.CallList.{Request, CallList}
 use Rattle.protocol.specs.Call.{Numbers, named}
 use Rattle.demand3.specs.Claim.{Uncut, Runs, PartA, PartB}
@@ -28,6 +29,8 @@ pub record Demand3 : Type 0 where
   pub demand : (N : Numbers) (qs : List Request) (F : Cluster) (f : ℕ → Flight) (b₀ b : Bytes) (i e : ℕ) (p : Bytes)
       → DamagedCluster (named N) F f (decodeWith (N .shape) (firstsOf F) b₀) i e p → CallList N qs b₀ b
       → PartB N b₀ (λ c. historyOf (N .shape .m) (f c) (F c)) i e p b
+  -- without witnesses nothing more is supposed than document 01 says
+  pub withoutWitnesses : WithoutWitnesses
   -- in edition 1 every log begins at 1, and an image taken apart under that index is the image
   pub editionOne : (N : Numbers) (firsts : ℕ → ℕ) (b : Bytes) (c : ℕ) → N .shape .edition ≡ 1 → firsts c ≡ 1
       → decodeWith (N .shape) firsts b c ≡ decode (N .shape) b c

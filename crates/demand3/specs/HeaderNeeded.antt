@@ -2,7 +2,7 @@
 -- the record of the payload.
 use Prim.Native.Nat.{ℕ, _≤_, _<_}
 use mathlib.Core.Path.{_≡_}
-use mathlib.Core.Bool.{true}
+use mathlib.Core.Bool.{true, false}
 use Rattle.search.specs.Search.{count}
 use Rattle.record.specs.Layout.{recordBytes}
 use Rattle.record.specs.Meaning.{proper}
@@ -12,8 +12,9 @@ use Rattle.protocol.specs.Call.{step, named, refusalIn}
 use Rattle.protocol.specs.CallResult.{callBytes}
 use Rattle.example.specs.Undamaged.{payloadA}
 use Rattle.example.specs.Misheaded.{ofMisheaded, misheaded, undamagedMisheaded, misheadedCluster}
-use Rattle.demand3.specs.Supposed.{History, Damaged, Agree, held, committed}
+use Rattle.demand3.specs.Supposed.{History, Damaged, held, committed}
 use Rattle.demand3.specs.Before.{historyOf}
+use Rattle.demand3.specs.Cards.{AgreeCards}
 use Rattle.demand3.specs.Claim.{recordIn}
 use Rattle.demand3.specs.Histories.{noFlights}
 
@@ -29,8 +30,8 @@ pub record HeaderNeeded : Type 0 where
   pub accepted : refusalIn misheaded misheadedCluster ≡ 0
   -- every supposition but that on headers
   pub damaged : (c : ℕ) → c < 3 → Damaged 1 (misheadedLogs c) (misheadedImages c)
-  pub agree : Agree 3 misheadedLogs
-  pub onMajority : majority 3 ≤ count (λ c. committed 3 2 payloadA (misheadedLogs c)) 3
+  pub agree : AgreeCards 3 misheadedLogs
+  pub onMajority : majority 3 ≤ count (λ c. committed false 3 2 payloadA (misheadedLogs c)) 3
   pub leaderHeld : held 3 2 (misheadedLogs 0) ≡ true
   -- the leader's header is a good one of another first index
   pub header : misheadedImages 0 .header ≡ proper 5

@@ -28,9 +28,9 @@ asked q = record { numbers = five; call = q }
 unfoldable pub calls : List Request
 calls =
     asked (plan 3 5)
-    ∷ record { numbers = record { shape = record { n = 5; m = 0; edition = 1 }; leader = 1; present = 31 }; call = run 9 }
-    ∷ record { numbers = record { shape = record { n = 8; m = 3; edition = 1 }; leader = 1; present = 31 }; call = step }
-    ∷ record { numbers = record { shape = record { n = 5; m = 2; edition = 1 }; leader = 1; present = 31 }; call = step }
+    ∷ record { numbers = record { shape = record { n = 5; m = 0; edition = 1; witnesses = 0 }; leader = 1; present = 31 }; call = run 9 }
+    ∷ record { numbers = record { shape = record { n = 8; m = 3; edition = 1; witnesses = 0 }; leader = 1; present = 31 }; call = step }
+    ∷ record { numbers = record { shape = record { n = 5; m = 2; edition = 1; witnesses = 0 }; leader = 1; present = 31 }; call = step }
     ∷ record { numbers = record { shape = ofFive; leader = 1; present = 63 }; call = step }
     ∷ record { numbers = record { shape = ofFive; leader = 5; present = 31 }; call = step }
     ∷ asked (plan 2 5)

@@ -4,6 +4,7 @@ ghost use Rattle.demand3.specs.Earliest.{Earliest};
 ghost use Rattle.demand3.specs.HeaderNeeded.{HeaderNeeded};
 ghost use Rattle.demand3.specs.LaterPlayed.{LaterExhibit};
 ghost use Rattle.demand3.specs.Played.{Exhibit, WaitingExhibit, EvenExhibit};
+ghost use Rattle.demand3.specs.WitnessPlayed.{WitnessExhibit, WitnessMajority};
 
 // The claim. The function does nothing; its contract is the theorem.
 pub fn demand_three()
@@ -28,6 +29,16 @@ pub fn even_exhibit_claim()
 // And of logs that begin later, at different indices.
 pub fn later_exhibit_claim()
     ensures { λ _. ⌜ LaterExhibit ⌝ }
+{}
+
+// And of witnesses: a witness's record keeps a payload from being cut, and with a copy switched on it stands again.
+pub fn witness_exhibit_claim()
+    ensures { λ _. ⌜ WitnessExhibit ⌝ }
+{}
+
+// Where witnesses alone are the majority, and no card has the payload, recovery waits.
+pub fn witness_majority_claim()
+    ensures { λ _. ⌜ WitnessMajority ⌝ }
 {}
 
 // What it supposes of headers is needed: a good header of another first index makes a step overwrite a committed payload's record.

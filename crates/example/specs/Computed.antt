@@ -68,9 +68,9 @@ pub record Computed : Type 0 where
   pub next-record : nextIn (named five) fetchedOne ≡ some (storeRecord 0 1 2)
   pub next-last : nextIn (named five) (stepsBytes (named five) 3 twoMore) ≡ some (storeEntry 3 1 0)
   pub planned : refusalOf five (plan 3 5) damagedCluster ≡ 0
-  pub refused-1 : refusalOf (record { shape = record { n = 5; m = 0; edition = 1 }; leader = 1; present = 31 }) (run 9) damagedCluster ≡ 1
-  pub refused-2 : refusalOf (record { shape = record { n = 8; m = 3; edition = 1 }; leader = 1; present = 31 }) step damagedCluster ≡ 2
-  pub refused-3 : refusalOf (record { shape = record { n = 5; m = 2; edition = 1 }; leader = 1; present = 31 }) step damagedCluster ≡ 3
+  pub refused-1 : refusalOf (record { shape = record { n = 5; m = 0; edition = 1; witnesses = 0 }; leader = 1; present = 31 }) (run 9) damagedCluster ≡ 1
+  pub refused-2 : refusalOf (record { shape = record { n = 8; m = 3; edition = 1; witnesses = 0 }; leader = 1; present = 31 }) step damagedCluster ≡ 2
+  pub refused-3 : refusalOf (record { shape = record { n = 5; m = 2; edition = 1; witnesses = 0 }; leader = 1; present = 31 }) step damagedCluster ≡ 3
   pub refused-11 : refusalOf (record { shape = ofFive; leader = 1; present = 63 }) step damagedCluster ≡ 11
   pub refused-12 : refusalOf (record { shape = ofFive; leader = 5; present = 31 }) step damagedCluster ≡ 12
   pub refused-13 : refusalOf five (plan 2 5) damagedCluster ≡ 13

@@ -9,7 +9,7 @@ use Rattle.example.specs.Undamaged.{payloadA, payloadB, payloadC, noise}
 
 -- five replicas with three slots
 abbrev pub ofFive : Shape
-ofFive = record { n = 5; m = 3; edition = 1 }
+ofFive = record { n = 5; m = 3; edition = 1; witnesses = 0 }
 
 -- leader 1, all five present
 unfoldable pub five : Numbers

@@ -12,7 +12,7 @@ use Rattle.example.specs.Undamaged.{payloadA, payloadC, noise}
 
 -- four replicas with one slot
 abbrev pub ofFour : Shape
-ofFour = record { n = 4; m = 1; edition = 1 }
+ofFour = record { n = 4; m = 1; edition = 1; witnesses = 0 }
 
 -- leader 1, all four present
 unfoldable pub four : Numbers

@@ -14,7 +14,7 @@ use Rattle.example.specs.Undamaged.{payloadA, payloadB, noise}
 
 -- three replicas with two slots
 abbrev pub ofLater : Shape
-ofLater = record { n = 3; m = 2; edition = 2 }
+ofLater = record { n = 3; m = 2; edition = 2; witnesses = 0 }
 
 -- leader 1, all three present
 unfoldable pub later : Numbers

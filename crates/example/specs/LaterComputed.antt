@@ -26,8 +26,8 @@ pub record LaterComputed : Type 0 where
   -- planning is not refused: all readable logs begin at 7. With the third readable it is 21; with another edition the length is wrong
   pub accepted : clusterRefusal ofLater 1 7 laterCluster ≡ 0
   pub refused-21 : clusterRefusal ofLater 1 7 otherFirsts ≡ 21
-  pub refused-3 : refusalOf (record { shape = record { n = 3; m = 2; edition = 1 }; leader = 1; present = 7 }) step laterCluster ≡ 3
-  pub refused-2 : refusalOf (record { shape = record { n = 3; m = 2; edition = 3 }; leader = 1; present = 7 }) step laterCluster ≡ 2
+  pub refused-3 : refusalOf (record { shape = record { n = 3; m = 2; edition = 1; witnesses = 0 }; leader = 1; present = 7 }) step laterCluster ≡ 3
+  pub refused-2 : refusalOf (record { shape = record { n = 3; m = 2; edition = 3; witnesses = 0 }; leader = 1; present = 7 }) step laterCluster ≡ 2
   pub headers-0 : decode ofLater laterCluster 0 .header ≡ proper 7
   pub headers-1 : decode ofLater laterCluster 1 .header ≡ proper 7
   pub headers-2 : decode ofLater laterCluster 2 .header ≡ improper longScrawl

@@ -13,7 +13,7 @@ use Rattle.example.specs.Later.{imageFrom}
 
 -- three replicas with one slot
 abbrev pub ofMisheaded : Shape
-ofMisheaded = record { n = 3; m = 1; edition = 2 }
+ofMisheaded = record { n = 3; m = 1; edition = 2; witnesses = 0 }
 
 -- leader 1, nobody else present
 unfoldable pub misheaded : Numbers

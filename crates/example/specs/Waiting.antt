@@ -10,7 +10,7 @@ use Rattle.example.specs.Undamaged.{payloadA, noise}
 
 -- three replicas with one slot
 abbrev pub ofThree : Shape
-ofThree = record { n = 3; m = 1; edition = 1 }
+ofThree = record { n = 3; m = 1; edition = 1; witnesses = 0 }
 
 -- leader 1, all three present
 unfoldable pub three : Numbers

@@ -10,7 +10,7 @@ use Rattle.slices.specs.Parts.{Bytes}
 use Rattle.record.specs.Meaning.{Entry, good, blank, intact, broken}
 use Rattle.image.specs.Image.{Image}
 use Rattle.image.specs.SetSlot.{setRecord, setEntry}
-use Rattle.image.specs.View.{Condition, Unused, Whole, RecordLost, Faulty, Lost, condition, epochOf, isLost, conditionAt, epochAt, logLength}
+use Rattle.image.specs.View.{Condition, Unused, Whole, RecordLost, Faulty, Lost, RecordOnly, condition, epochOf, isLost, conditionAt, epochAt, logLength}
 use Rattle.image.specs.Verdict.{isFresh, verdictOf, verdictAt}
 use Rattle.image.proofs.ViewLaws.{Sound}
 use Rattle.image.proofs.StoreLaws.{entry-length, entry-epoch, entry-condition-other, entry-sound, record-condition, record-condition-other, record-epoch, record-epoch-other, appended-length, appended-sound}
@@ -34,6 +34,7 @@ grown-last k RecordLost x = refl
 grown-last k Faulty (intact e p) = refl
 grown-last k Faulty (broken b) = rw (ne-eqb (suc k) (suc (suc k)) (λ q. omega arith), eq-eqb (suc k) (suc k) refl)
 grown-last k Lost x = refl
+grown-last k RecordOnly x = refl
 
 grown-other : (l k : ℕ) (a : Condition) (x : Entry) → ¬ (k ≡ l) → ¬ (suc k ≡ l) → ¬ (k ≡ suc l) → verdictOf (suc l) k a x ≡ verdictOf l k a x
 unfolding verdictOf
@@ -43,6 +44,7 @@ grown-other l k RecordLost x p q r = refl
 grown-other l k Faulty (intact e y) p q r = refl
 grown-other l k Faulty (broken b) p q r = rw (ne-eqb (suc k) l q, ne-eqb (suc k) (suc l) (λ z. p (omega arith)))
 grown-other l k Lost x p q r = refl
+grown-other l k RecordOnly x p q r = refl
 
 -- ---- the image
 module _ (m : ℕ) (i : Image) (l e : ℕ) (p : Bytes) where

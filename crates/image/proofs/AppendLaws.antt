@@ -11,18 +11,19 @@ use Rattle.slices.specs.Parts.{Bytes, part, spliced}
 use Rattle.slices.proofs.SameLaws.{and-left, and-right, and-off}
 use Rattle.slices.proofs.SpliceLaws.{length-spliced}
 use Rattle.record.specs.declared.Shape.{Shape}
-use Rattle.record.specs.Layout.{recordBytes, entryBytes}
+use Rattle.record.specs.Layout.{isWitness, recordBytes, entryBytes}
 use Rattle.record.specs.Meaning.{firstIndex, Record, intact, isEpoch, readEntry, writeEntry, entryPayload}
 use Rattle.record.proofs.LayoutLaws.{length-record, length-entry}
 use Rattle.record.proofs.RecordLaws.{read-good, is-epoch}
 use Rattle.record.proofs.EntryLaws.{read-intact, write-read-entry, intact-for, intact-payload}
 use Rattle.image.specs.Image.{Image, index, imageSize, recordAt, entryAt, firstIn, decodeImage}
 use Rattle.image.specs.SetSlot.{setRecord, setEntry}
-use Rattle.image.specs.View.{Whole, conditionAt, logLength, callRefusal, readRefusal}
+use Rattle.image.specs.View.{Whole, conditionAt, logLength, callRefusal, readRefusal, cardRefusal}
 use Rattle.image.specs.Read.{isWhole, hasPayload, payloadOf}
 use Rattle.image.specs.Append.{appendRefusal, stored, appended}
 use Rattle.image.specs.AppendClaim.{OneMore}
 use Rattle.image.proofs.RefusalLaws.{else-zero, else-zero-l}
+use Rattle.image.proofs.CardLaws.{card-card, card-readable, card-intro}
 use Rattle.image.proofs.ViewLaws.{Sound, sound-intro}
 use Rattle.image.proofs.DecodeLaws.{record-fits, entry-fits, first-is, entry-there, record-spliced, entry-spliced, entry-keeps-first}
 use Rattle.image.proofs.AddedLaws.{added, added-header, added-condition, added-epoch, added-entry, added-entry-other, added-condition-other, added-epoch-other, added-length, added-sound, added-verdict, added-verdict-last, added-verdict-other, added-verdict-next, unused-verdict}
@@ -30,11 +31,11 @@ use Rattle.image.proofs.AcceptLaws.{Accepts, readable-size, readable-im
 
 -- ---- what is stored, taken apart
 
-module _ (Z : Shape) (c : ℕ) (b : Bytes) (size : length b ≡ imageSize Z c) (k : ℕ) (km : k < Z .m) (e : ℕ) (ep : isEpoch e ≡ true) (p : Bytes) (lp : length p ≤ 200) {first : ℕ} (from : first ≡ firstIn Z c b) where
+module _ (Z : Shape) (c : ℕ) (b : Bytes) (size : length b ≡ imageSize Z c) (k : ℕ) (card : isWitness Z c ≡ false) (km : k < Z .m) (e : ℕ) (ep : isEpoch e ≡ true) (p : Bytes) (lp : length p ≤ 200) {first : ℕ} (from : first ≡ firstIn Z c b) where
   entered : length (spliced b (entryAt Z k) (entryBytes e (index first k) p)) ≡ imageSize Z c
   entered =
       let l = length-entry e (index first k) p lp in
-      length-spliced b (entryAt Z k) (entryBytes e (index first k) p) (omega (arith, l, entry-fits Z c k km)) ∙ size
+      length-spliced b (entryAt Z k) (entryBytes e (index first k) p) (omega (arith, l, entry-fits Z c k card km)) ∙ size
 
   pub length-stored : length (stored Z first b k e p) ≡ imageSize Z c
   unfolding stored
@@ -46,18 +47,18 @@ module _ (Z : Shape) (c : ℕ) (b : Bytes) (size : length b ≡ imageSize Z c) (
   stored-added =
       record-spliced Z c _ entered k km (recordBytes e (index first k)) (length-record e (index first k))
       ∙ ap₂ (λ (i : Image) (r : Record). setRecord i k r)
-      (entry-spliced Z c b size k km (entryBytes e (index first k) p) (length-entry e (index first k) p lp)
+      (entry-spliced Z c b size k card km (entryBytes e (index first k) p) (length-entry e (index first k) p lp)
       ∙ ap (setEntry (decodeImage Z c b) k) (rw (← from) (read-intact (index first k) e p ep lp)))
-      (rw (entry-keeps-first Z c b size k km (entryBytes e (index first k) p) (length-entry e (index first k) p lp), ← from) (read-good (index first k) e ep))
+      (rw (entry-keeps-first Z c b size k card km (entryBytes e (index first k) p) (length-entry e (index first k) p lp), ← from) (read-good (index first k) e ep))
 
 -- ---- payloads
 
 -- an entry that means the same under the same index is the same bytes
-pub entry-bytes : (Z : Shape) (c : ℕ) (b d : Bytes) (k : ℕ) → k < Z .m → firstIn Z c d ≡ firstIn Z c b
+pub entry-bytes : (Z : Shape) (c : ℕ) (b d : Bytes) (k : ℕ) → isWitness Z c ≡ false → k < Z .m → firstIn Z c d ≡ firstIn Z c b
     → decodeImage Z c d .entries k ≡ decodeImage Z c b .entries k → part d (entryAt Z k) 240 ≡ part b (entryAt Z k) 240
-entry-bytes Z c b d k h f e =
+entry-bytes Z c b d k card h f e =
     sym (write-read-entry (index (firstIn Z c d) k) (part d (entryAt Z k) 240))
-    ∙ ap (writeEntry (index (firstIn Z c d) k)) (sym (entry-there Z c d k h) ∙ e ∙ entry-there Z c b k h)
+    ∙ ap (writeEntry (index (firstIn Z c d) k)) (sym (entry-there Z c d k card h) ∙ e ∙ entry-there Z c b k card h)
     ∙ rw f (write-read-entry (index (firstIn Z c b) k) (part b (entryAt Z k) 240))
 
 pub has-payload : (m : ℕ) (i : Image) (k : ℕ) → k < m → hasPayload m i (suc k) ≡ isWhole (conditionAt i k)
@@ -68,7 +69,7 @@ pub no-slot : (m : ℕ) (i : Image) (k : ℕ) → m ≤ k → hasPayload m i (su
 unfolding hasPayload
 no-slot m i k h = rw (lt-leb (suc k) m (omega arith), and-off)
 
-pub payload-there : (Z : Shape) (c : ℕ) (b : Bytes) (k : ℕ) → readRefusal Z c b ≡ 0 → hasPayload (Z .m) (decodeImage Z c b) (suc k) ≡ true
+pub payload-there : (Z : Shape) (c : ℕ) (b : Bytes) (k : ℕ) → cardRefusal Z c b ≡ 0 → hasPayload (Z .m) (decodeImage Z c b) (suc k) ≡ true
     → payloadOf Z c b (suc k) ≡ entryPayload (part b (entryAt Z k) 240)
 unfolding payloadOf
 payload-there Z c b k r h = let z : suc k - 1 ≡ k = omega arith in rw (r, h, z)
@@ -89,6 +90,9 @@ pub readable-still : (Z : Shape) (c : ℕ) (b d : Bytes) → length d ≡ length
 unfolding readRefusal
 readable-still Z c b d l r s = else-zero (ap (callRefusal Z c) l ∙ else-zero-l _ _ r) (sound-intro (Z .m) (decodeImage Z c d) s)
 
+pub card-still : (Z : Shape) (c : ℕ) (b d : Bytes) → length d ≡ length b → cardRefusal Z c b ≡ 0 → Sound (Z .m) (decodeImage Z c d) → cardRefusal Z c d ≡ 0
+card-still Z c b d l r s = card-intro Z c d (card-card Z c b r) (readable-still Z c b d l (card-readable Z c b r) s)
+
 -- b becomes d by an append that is accepted
 module _ (Z : Shape) (c : ℕ) (b : Bytes) (e : ℕ) (p : Bytes) (d : Bytes) where
   abbrev before : Image
@@ -108,7 +112,7 @@ module _ (Z : Shape) (c : ℕ) (b : Bytes) (e : ℕ) (p : Bytes) (d : Bytes) whe
       let w : ¬ (k ≡ len) = λ x. q (ap suc x) in
       rw (z, is, added-condition-other (Z .m) before len e p k w)
 
-  same-payload : readRefusal Z c b ≡ 0 → readRefusal Z c d ≡ 0 → decodeImage Z c d ≡ added before len e p
+  same-payload : cardRefusal Z c b ≡ 0 → cardRefusal Z c d ≡ 0 → decodeImage Z c d ≡ added before len e p
       → (s : ℕ) → ¬ (s ≡ suc len) → payloadOf Z c d s ≡ payloadOf Z c b s
   same-payload r r′ is s q = go (hasPayload (Z .m) before s) refl
     where
@@ -117,7 +121,7 @@ module _ (Z : Shape) (c : ℕ) (b : Bytes) (e : ℕ) (p : Bytes) (d : Bytes) whe
           let w : ¬ (k ≡ len) = λ y. q (x ∙ ap suc y) in
           rw x
           (payload-there Z c d k r′ (rw x at (same-presence is s q ∙ h))
-          ∙ ap entryPayload (entry-bytes Z c b d k km (same-first is) (ap (λ (i : Image). i .entries k) is ∙ added-entry-other (Z .m) before len e p k w))
+          ∙ ap entryPayload (entry-bytes Z c b d k (card-card Z c b r) km (same-first is) (ap (λ (i : Image). i .entries k) is ∙ added-entry-other (Z .m) before len e p k w))
           ∙ sym (payload-there Z c b k r (rw x at h)))
 
       go : (t : Bool) → hasPayload (Z .m) before s ≡ t → payloadOf Z c d s ≡ payloadOf Z c b s
@@ -125,24 +129,27 @@ module _ (Z : Shape) (c : ℕ) (b : Bytes) (e : ℕ) (p : Bytes) (d : Bytes) whe
       go false h = payload-none Z c d s (same-presence is s q ∙ h) ∙ sym (payload-none Z c b s h)
 
   module _ (high : e ≤ 4294967295) (ok : Accepts Z c b e (length p)) (by : d ≡ stored Z (firstIn Z c b) b len e p) where
+    card : isWitness Z c ≡ false
+    card = card-card Z c b (ok .readable)
+
     size : length b ≡ imageSize Z c
-    size = readable-size Z c b (ok .readable)
+    size = readable-size Z c b (card-readable Z c b (ok .readable))
 
     epoch : isEpoch e ≡ true
     epoch = is-epoch e (ok .positive) high
 
     sound : Sound (Z .m) before
-    sound = readable-image Z c b (ok .readable)
+    sound = readable-image Z c b (card-readable Z c b (ok .readable))
 
     as-long : length d ≡ length b
-    as-long = ap length by ∙ length-stored Z c b size len (ok .room) e epoch p (ok .short) refl ∙ sym size
+    as-long = ap length by ∙ length-stored Z c b size len card (ok .room) e epoch p (ok .short) refl ∙ sym size
 
     becomes : decodeImage Z c d ≡ added before len e p
-    becomes = ap (decodeImage Z c) by ∙ stored-added Z c b size len (ok .room) e epoch p (ok .short) refl
+    becomes = ap (decodeImage Z c) by ∙ stored-added Z c b size len card (ok .room) e epoch p (ok .short) refl
 
-    readable : readRefusal Z c d ≡ 0
+    readable : cardRefusal Z c d ≡ 0
     readable =
-        readable-still Z c b d as-long (ok .readable)
+        card-still Z c b d as-long (ok .readable)
         (rw becomes (added-sound (Z .m) before len e p sound refl (ok .room) (rising-last Z c b sound e (ok .rising))))
 
     whole : conditionAt (decodeImage Z c d) len ≡ Whole
@@ -153,7 +160,7 @@ module _ (Z : Shape) (c : ℕ) (b : Bytes) (e : ℕ) (p : Bytes) (d : Bytes) whe
     present = has-payload (Z .m) (decodeImage Z c d) len (ok .room) ∙ ap isWhole whole
 
     entry : readEntry (index (firstIn Z c d) len) (part d (entryAt Z len) 240) ≡ intact e p
-    entry = sym (entry-there Z c d len (ok .room)) ∙ ap (λ (i : Image). i .entries len) becomes ∙ added-entry (Z .m) before len e p
+    entry = sym (entry-there Z c d len card (ok .room)) ∙ ap (λ (i : Image). i .entries len) becomes ∙ added-entry (Z .m) before len e p
 
     pub one-more : OneMore Z c b before len e p d (decodeImage Z c d)
     one-more = record {

@@ -12,8 +12,9 @@ use Rattle.search.proofs.ListedLaws.{listed-ext}
 use Rattle.slices.specs.Parts.{Bytes}
 use Rattle.slices.proofs.SameLaws.{and-off}
 use Rattle.record.specs.declared.Shape.{Shape}
+use Rattle.record.specs.Layout.{isWitness}
 use Rattle.image.specs.Image.{Image, imageSize, firstIn, decodeImage, freshImage}
-use Rattle.image.specs.View.{Unused, Whole, condition, epochOf, conditionAt, epochAt, logLength, readRefusal}
+use Rattle.image.specs.View.{Unused, Whole, condition, epochOf, conditionAt, epochAt, logLength, cardRefusal}
 use Rattle.image.specs.Verdict.{isFresh, verdictAt}
 use Rattle.image.specs.Read.{isWhole, epochsOf, verdictsOf, hasPayload, payloadOf}
 use Rattle.image.specs.Append.{formatRefusal, appendRefusal, appended}
@@ -23,6 +24,7 @@ use Rattle.image.proofs.ViewLaws.{Sound, length-le}
 use Rattle.image.proofs.VerdictLaws.{verdict-whole, verdict-unused}
 use Rattle.image.proofs.CallLaws.{formatted-first}
 use Rattle.image.proofs.FreshLaws.{fresh-first, fresh-length, fresh-fresh, fresh-readable}
+use Rattle.image.proofs.CardLaws.{card-readable, card-intro}
 use Rattle.image.proofs.AcceptLaws.{Accepts, accepts-elim, readable-image}
 use Rattle.image.proofs.AppendLaws.{has-payload, no-slot, payload-none, one-more, appended-entry, appended-stored}
 
@@ -30,7 +32,7 @@ abbrev nothing : Appending
 nothing = record { epoch = 0; payload = [] }
 
 -- a list and then one value
-listed-split : (m : ℕ) (f : ℕ → ℕ) (l : List ℕ) (z : ℕ) → length l ≤ m → ((k : ℕ) → k < length l → f k ≡ getD l k 0) → ((k : ℕ) → length l ≤ k → k < m → f k ≡ z)
+pub listed-split : (m : ℕ) (f : ℕ → ℕ) (l : List ℕ) (z : ℕ) → length l ≤ m → ((k : ℕ) → k < length l → f k ≡ getD l k 0) → ((k : ℕ) → length l ≤ k → k < m → f k ≡ z)
     → listed m f ≡ l ++ replicate (m - length l) z
 listed-split m f l z h a b = sym (listed-ext m f 0 (l ++ replicate (m - length l) z) size (λ k x. go k x (decLt k (length l))))
   where
@@ -51,22 +53,22 @@ listed-split m f l z h a b = sym (listed-ext m f 0 (l ++ replicate (m - length l
 -- so much of b holds the list, and the rest is fresh
 record Holds (Z : Shape) (c first : ℕ) (b : Bytes) (l : List Appending) : Type 0 where
   begins : firstIn Z c b ≡ first
-  readable : readRefusal Z c b ≡ 0
+  readable : cardRefusal Z c b ≡ 0
   many : logLength (Z .m) (decodeImage Z c b) ≡ length l
   whole : (k : ℕ) → k < length l → conditionAt (decodeImage Z c b) k ≡ Whole
   epochs : (k : ℕ) → k < length l → epochAt (decodeImage Z c b) k ≡ getD l k nothing .epoch
   payloads : (k : ℕ) → k < length l → payloadOf Z c b (suc k) ≡ getD l k nothing .payload
   unused : (k : ℕ) → length l ≤ k → k < Z .m → isFresh (decodeImage Z c b .entries k) ≡ true
 
-holds-fresh : (Z : Shape) (c first : ℕ) → formatRefusal Z c first (imageSize Z c) ≡ 0 → Holds Z c first (freshImage Z c first) []
-holds-fresh Z c first h = record {
+holds-fresh : (Z : Shape) (c first : ℕ) → isWitness Z c ≡ false → formatRefusal Z c first (imageSize Z c) ≡ 0 → Holds Z c first (freshImage Z c first) []
+holds-fresh Z c first card h = record {
   begins = fresh-first Z c first (formatted-first Z c first (imageSize Z c) h);
-  readable = fresh-readable Z c first h;
+  readable = card-intro Z c (freshImage Z c first) card (fresh-readable Z c first h);
   many = fresh-length Z c first;
   whole = λ k x. absurd (omega arith);
   epochs = λ k x. absurd (omega arith);
   payloads = λ k x. absurd (omega arith);
-  unused = λ k x y. fresh-fresh Z c first k y;
+  unused = λ k x y. fresh-fresh Z c first k card y;
 }
 
 module _ (Z : Shape) (c first : ℕ) (b : Bytes) (l : List Appending) (a : Appending) (w : Holds Z c first b l) (high : a .epoch ≤ 4294967295)
@@ -133,7 +135,7 @@ module _ (Z : Shape) (c first : ℕ) (b : Bytes) (l : List Appending) (w : Holds
   fits = omega (arith, length-le (Z .m) image, w .many)
 
   sound : Sound (Z .m) image
-  sound = readable-image Z c b (w .readable)
+  sound = readable-image Z c b (card-readable Z c b (w .readable))
 
   rest : (k : ℕ) → length l ≤ k → k < Z .m → conditionAt image k ≡ Unused
   unfolding conditionAt condition
@@ -188,7 +190,7 @@ module _ (Z : Shape) (c first : ℕ) (b : Bytes) (l : List Appending) (w : Holds
       ones : length (replicate {A = ℕ} (length l) 1) ≡ length l
       ones = length-replicate (length l) 1
 
-pub several-read : (Z : Shape) (c first : ℕ) (l : List Appending) → formatRefusal Z c first (imageSize Z c) ≡ 0
+pub several-read : (Z : Shape) (c first : ℕ) (l : List Appending) → isWitness Z c ≡ false → formatRefusal Z c first (imageSize Z c) ≡ 0
     → Accepted Z c (freshImage Z c first) l → ReadsAs Z c first (appendAll Z c (freshImage Z c first) l) l
-several-read Z c first l h a =
-    reads-as Z c first (appendAll Z c (freshImage Z c first) l) l (holds-all Z c first l (freshImage Z c first) [] (holds-fresh Z c first h) a)
+several-read Z c first l card h a =
+    reads-as Z c first (appendAll Z c (freshImage Z c first) l) l (holds-all Z c first l (freshImage Z c first) [] (holds-fresh Z c first card h) a)

@@ -1,7 +1,8 @@
 -- The structured form has every byte: an image and a cluster of the right length, taken apart and written again, are the same bytes.
 use Prim.Native.Nat.{ℕ, zero, suc, _+_, _*_, _<_}
 use mathlib.Core.Path.{_≡_, refl, sym, ap, _∙_}
-use mathlib.Core.List.{_++_}
+use mathlib.Core.Bool.{Bool, true, false, cond}
+use mathlib.Core.List.{[], _++_}
 use native.Mathlib.Nat.{mul-zero, mul-suc, zero-add}
 use lib.ListN.{length}
 use Rattle.search.specs.Search.{sum, joined}
@@ -9,12 +10,12 @@ use Rattle.search.proofs.ListedLaws.{joined-cong}
 use Rattle.slices.specs.Parts.{Bytes, part}
 use Rattle.slices.proofs.PartLaws.{part-join, part-whole}
 use Rattle.record.specs.declared.Shape.{Shape}
-use Rattle.record.specs.Layout.{headerSize}
+use Rattle.record.specs.Layout.{isWitness, headerSize}
 use Rattle.record.specs.Meaning.{firstIndex, writeHeader, writeRecord, writeEntry}
 use Rattle.record.proofs.HeaderLaws.{write-read-header}
 use Rattle.record.proofs.RecordLaws.{write-read-record}
 use Rattle.record.proofs.EntryLaws.{write-read-entry}
-use Rattle.image.specs.Image.{Image, index, imageSize, recordAt, entryAt, firstIn, decodeImage, encodeImage}
+use Rattle.image.specs.Image.{Image, index, entriesSize, imageSize, recordAt, entryAt, firstIn, decodeImage, encodeImage}
 use Rattle.image.specs.Cluster.{imageAt, imagePart, decode, encode}
 use Rattle.image.proofs.DecodeLaws.{header-there, first-is, record-there, entry-there}
 use Rattle.image.proofs.ClusterLaws.{image-next, length-image}
@@ -31,9 +32,9 @@ module _ (Z : Shape) (c : ℕ) (b : Bytes) where
   unfolding encodeImage imageSize
   encode-decode-image size =
       join header records entries
-      ∙ ap (λ (t : Bytes). t ++ part b (0 + (headerSize Z + 34 * Z .m)) (240 * Z .m)) (part-join b 0 (headerSize Z) (34 * Z .m))
-      ∙ part-join b 0 (headerSize Z + 34 * Z .m) (240 * Z .m)
-      ∙ part-whole b (headerSize Z + 34 * Z .m + 240 * Z .m) size
+      ∙ ap (λ (t : Bytes). t ++ part b (0 + (headerSize Z + 34 * Z .m)) (entriesSize Z c)) (part-join b 0 (headerSize Z) (34 * Z .m))
+      ∙ part-join b 0 (headerSize Z + 34 * Z .m) (entriesSize Z c)
+      ∙ part-whole b (headerSize Z + 34 * Z .m + entriesSize Z c) size
     where
       join : {x x′ y y′ z z′ : Bytes} → x ≡ x′ → y ≡ y′ → z ≡ z′ → x ++ y ++ z ≡ x′ ++ y′ ++ z′
       join p q r = cc
@@ -53,11 +54,20 @@ module _ (Z : Shape) (c : ℕ) (b : Bytes) where
           (λ k h. ap (writeRecord (index first k)) (record-there Z c b k h) ∙ unfold recordAt in write-read-record (index first k) (part b (headerSize Z + 34 * k) 34))
           ∙ joined-parts b (headerSize Z) 34 (Z .m))
 
-      entries : joined (Z .m) (λ k. writeEntry (index (firstIndex (i .header)) k) (i .entries k)) ≡ part b (0 + (headerSize Z + 34 * Z .m)) (240 * Z .m)
-      entries = rw (zero-add, first-is Z c b)
+      written : isWitness Z c ≡ false → joined (Z .m) (λ k. writeEntry (index (firstIndex (i .header)) k) (i .entries k)) ≡ part b (0 + (headerSize Z + 34 * Z .m)) (240 * Z .m)
+      written card = rw (zero-add, first-is Z c b)
           (joined-cong (Z .m) (λ k. writeEntry (index first k) (i .entries k)) (λ k. part b (headerSize Z + 34 * Z .m + 240 * k) 240)
-          (λ k h. ap (writeEntry (index first k)) (entry-there Z c b k h) ∙ unfold entryAt in write-read-entry (index first k) (part b (headerSize Z + 34 * Z .m + 240 * k) 240))
+          (λ k h. ap (writeEntry (index first k)) (entry-there Z c b k card h) ∙ unfold entryAt in write-read-entry (index first k) (part b (headerSize Z + 34 * Z .m + 240 * k) 240))
           ∙ joined-parts b (headerSize Z + 34 * Z .m) 240 (Z .m))
+
+      -- a witness has none
+      entries : cond (isWitness Z c) [] (joined (Z .m) (λ k. writeEntry (index (firstIndex (i .header)) k) (i .entries k))) ≡ part b (0 + (headerSize Z + 34 * Z .m)) (entriesSize Z c)
+      entries = unfold entriesSize in go (isWitness Z c) refl
+        where
+          go : (t : Bool) → isWitness Z c ≡ t
+              → cond t [] (joined (Z .m) (λ k. writeEntry (index (firstIndex (i .header)) k) (i .entries k))) ≡ part b (0 + (headerSize Z + 34 * Z .m)) (cond t 0 (240 * Z .m))
+          go true e = unfold part in refl
+          go false e = written e
 
 -- two images of one size with the same structured form are the same bytes
 pub decode-image-injective : (Z : Shape) (c : ℕ) (a b : Bytes) → length a ≡ imageSize Z c → length b ≡ imageSize Z c → decodeImage Z c a ≡ decodeImage Z c b → a ≡ b

@@ -2,7 +2,7 @@
 use Prim.Native.Nat.{ℕ, zero, suc, _+_, _*_, _≤_, _<_}
 use mathlib.Core.Path.{_≡_, refl, sym, ap, _∙_}
 use mathlib.Core.Bool.{Bool, true, false, cond}
-use mathlib.Core.List.{_++_}
+use mathlib.Core.List.{[], _++_}
 use native.Mathlib.Omega.{arith}
 use native.Mathlib.Nat.{mul-le-mul-left}
 use native.Mathlib.Decide.{ℕ-discrete}
@@ -16,13 +16,13 @@ use Rattle.slices.specs.Parts.{Bytes, part}
 use Rattle.slices.proofs.SameLaws.{and-off, same-refl}
 use Rattle.slices.proofs.PartLaws.{part-front, part-back, part-first, part-last}
 use Rattle.record.specs.declared.Shape.{Shape}
-use Rattle.record.specs.Layout.{headerSize, headerBytes, blankRecord, freshEntry}
+use Rattle.record.specs.Layout.{isWitness, headerSize, headerBytes, blankRecord, freshEntry}
 use Rattle.record.specs.Meaning.{proper, firstIndex, isFirst, blank, readHeader, readRecord, readEntry}
 use Rattle.record.proofs.LayoutLaws.{length-header, length-blank, length-fresh}
 use Rattle.record.proofs.HeaderLaws.{read-proper}
 use Rattle.record.proofs.RecordLaws.{read-blank}
 use Rattle.record.proofs.EntryLaws.{fresh-read}
-use Rattle.image.specs.Image.{Image, index, imageSize, recordAt, entryAt, decodeUnder, firstIn, decodeImage, freshImage}
+use Rattle.image.specs.Image.{Image, index, entriesSize, imageSize, recordAt, entryAt, decodeUnder, firstIn, decodeImage, freshImage}
 use Rattle.image.specs.View.{Unused, condition, isBlank, isProper, isLost, conditionAt, logLength, callRefusal, readRefusal}
 use Rattle.image.specs.Verdict.{isFresh, verdictAt}
 use Rattle.image.specs.Append.{formatRefusal}
@@ -30,7 +30,7 @@ use Rattle.image.proofs.RefusalLaws.{else-zero}
 use Rattle.image.proofs.CallLaws.{formatted-first, formatted-call}
 use Rattle.image.proofs.ViewLaws.{Sound, sound-intro}
 use Rattle.image.proofs.VerdictLaws.{verdict-unused}
-use Rattle.image.proofs.DecodeLaws.{first-is, entry-there}
+use Rattle.image.proofs.DecodeLaws.{entries-card, entries-witness, first-is, entry-there}
 
 -- one of several parts of one size
 pub joined-part : (b s : ℕ) (f : ℕ → Bytes) (k : ℕ) → ((j : ℕ) → j < b → length (f j) ≡ s) → k < b → part (joined b f) (s * k) s ≡ f k
@@ -50,8 +50,8 @@ joined-part (suc b) s f k h l = go (ℕ-discrete k b) (joined-part b s f k (λ j
 abbrev records : ℕ → Bytes
 records m = joined m (λ k. blankRecord)
 
-abbrev entries : ℕ → Bytes
-entries m = joined m (λ k. freshEntry)
+abbrev entries : Shape → ℕ → Bytes
+entries Z c = cond (isWitness Z c) [] (joined (Z .m) (λ k. freshEntry))
 
 pub length-records : (m : ℕ) → length (joined m (λ k. blankRecord)) ≡ 34 * m
 length-records m = length-joined m 34 (λ k. blankRecord) (λ k h. length-blank)
@@ -59,33 +59,42 @@ length-records m = length-joined m 34 (λ k. blankRecord) (λ k h. length-blank)
 pub length-entries : (m : ℕ) → length (joined m (λ k. freshEntry)) ≡ 240 * m
 length-entries m = length-joined m 240 (λ k. freshEntry) (λ k h. length-fresh)
 
+pub length-fresh-entries : (Z : Shape) (c : ℕ) → length (cond (isWitness Z c) [] (joined (Z .m) (λ k. freshEntry))) ≡ entriesSize Z c
+unfolding entriesSize
+length-fresh-entries Z c = go (isWitness Z c)
+  where
+    go : (t : Bool) → length (cond t [] (joined (Z .m) (λ k. freshEntry))) ≡ cond t 0 (240 * Z .m)
+    go true = refl
+    go false = length-entries (Z .m)
+
 module _ (Z : Shape) (c first : ℕ) where
   length-front : length (headerBytes Z c first ++ records (Z .m)) ≡ headerSize Z + 34 * Z .m
   length-front = length-append (headerBytes Z c first) (records (Z .m)) ∙ omega (arith, length-header Z c first, length-records (Z .m))
 
   pub length-fresh-image : length (freshImage Z c first) ≡ imageSize Z c
   unfolding freshImage imageSize
-  length-fresh-image = length-append (headerBytes Z c first ++ records (Z .m)) (entries (Z .m)) ∙ omega (arith, length-front, length-entries (Z .m))
+  length-fresh-image = length-append (headerBytes Z c first ++ records (Z .m)) (entries Z c) ∙ omega (arith, length-front, length-fresh-entries Z c)
 
   -- ---- its parts
   fresh-header : part (freshImage Z c first) 0 (headerSize Z) ≡ headerBytes Z c first
   unfolding freshImage
   fresh-header =
-      part-front (headerBytes Z c first ++ records (Z .m)) (entries (Z .m)) 0 (headerSize Z) (omega (arith, length-front))
+      part-front (headerBytes Z c first ++ records (Z .m)) (entries Z c) 0 (headerSize Z) (omega (arith, length-front))
       ∙ part-first (headerBytes Z c first) (records (Z .m)) (headerSize Z) (length-header Z c first)
 
   fresh-record : (k : ℕ) → k < Z .m → part (freshImage Z c first) (recordAt Z k) 34 ≡ blankRecord
   unfolding freshImage recordAt
   fresh-record k h =
-      part-front (headerBytes Z c first ++ records (Z .m)) (entries (Z .m)) (headerSize Z + 34 * k) 34 (omega (arith, length-front, mul-le-mul-left 34 h))
+      part-front (headerBytes Z c first ++ records (Z .m)) (entries Z c) (headerSize Z + 34 * k) 34 (omega (arith, length-front, mul-le-mul-left 34 h))
       ∙ part-back (headerBytes Z c first) (records (Z .m)) (34 * k) 34 (headerSize Z) (length-header Z c first)
       ∙ joined-part (Z .m) 34 (λ j. blankRecord) k (λ j x. length-blank) h
 
-  fresh-entry : (k : ℕ) → k < Z .m → part (freshImage Z c first) (entryAt Z k) 240 ≡ freshEntry
+  fresh-entry : (k : ℕ) → isWitness Z c ≡ false → k < Z .m → part (freshImage Z c first) (entryAt Z k) 240 ≡ freshEntry
   unfolding freshImage entryAt
-  fresh-entry k h =
-      part-back (headerBytes Z c first ++ records (Z .m)) (entries (Z .m)) (240 * k) 240 (headerSize Z + 34 * Z .m) length-front
-      ∙ joined-part (Z .m) 240 (λ j. freshEntry) k (λ j x. length-fresh) h
+  fresh-entry k card h =
+      part-back (headerBytes Z c first ++ records (Z .m)) (entries Z c) (240 * k) 240 (headerSize Z + 34 * Z .m) length-front
+      ∙ rw card
+      (joined-part (Z .m) 240 (λ j. freshEntry) k (λ j x. length-fresh) h)
 
   -- ---- what they mean
   abbrev fresh : Image
@@ -107,10 +116,10 @@ module _ (Z : Shape) (c first : ℕ) where
       go true e = ap (readRecord (index (firstIn Z c (freshImage Z c first)) k)) (fresh-record k (ltb-true k (Z .m) e)) ∙ read-blank (index (firstIn Z c (freshImage Z c first)) k)
       go false e = refl
 
-  pub fresh-fresh : (k : ℕ) → k < Z .m → isFresh (decodeImage Z c (freshImage Z c first) .entries k) ≡ true
+  pub fresh-fresh : (k : ℕ) → isWitness Z c ≡ false → k < Z .m → isFresh (decodeImage Z c (freshImage Z c first) .entries k) ≡ true
   unfolding isFresh
-  fresh-fresh k h =
-      let e = entry-there Z c (freshImage Z c first) k h ∙ ap (readEntry (index (firstIn Z c (freshImage Z c first)) k)) (fresh-entry k h) ∙ fresh-read (index (firstIn Z c (freshImage Z c first)) k) in
+  fresh-fresh k card h =
+      let e = entry-there Z c (freshImage Z c first) k card h ∙ ap (readEntry (index (firstIn Z c (freshImage Z c first)) k)) (fresh-entry k card h) ∙ fresh-read (index (firstIn Z c (freshImage Z c first)) k) in
       rw e (same-refl freshEntry)
 
   -- ---- what is seen of it
@@ -122,8 +131,8 @@ module _ (Z : Shape) (c first : ℕ) where
   unfolding conditionAt condition
   fresh-condition k = rw (fresh-blank k)
 
-  pub fresh-verdict : (k : ℕ) → k < Z .m → verdictAt (Z .m) fresh k ≡ 0
-  fresh-verdict k h = verdict-unused (Z .m) fresh k (fresh-condition k) ∙ rw (fresh-fresh k h, and-off)
+  pub fresh-verdict : (k : ℕ) → isWitness Z c ≡ false → k < Z .m → verdictAt (Z .m) fresh k ≡ 0
+  fresh-verdict k card h = verdict-unused (Z .m) fresh k (fresh-condition k) ∙ rw (fresh-fresh k card h, and-off)
 
   pub fresh-sound : isFirst Z first ≡ true → Sound (Z .m) fresh
   unfolding isProper isLost

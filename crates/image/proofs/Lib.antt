@@ -1,6 +1,7 @@
 -- Laws that the proofs of this crate, and of the crates above it, cite.
 pub mod RefusalLaws
 pub mod CallLaws
+pub mod CardLaws
 pub mod ViewLaws
 pub mod ScanLaws
 pub mod ScannedLaws
@@ -21,6 +22,7 @@ pub mod AppendLaws
 pub mod AppendListLaws
 pub mod PutLaws
 pub mod AppendSteps
+pub mod WitnessLaws
 pub mod LastEntryLaws
 pub mod ReadingLaws
 pub mod LowestLaws

@@ -11,6 +11,7 @@ use Rattle.slices.specs.Parts.{Bytes, part}
 use Rattle.slices.proofs.SameLaws.{and-left, and-right, and-off, clash}
 use Rattle.slices.proofs.PartLaws.{part-part}
 use Rattle.record.specs.declared.Shape.{Shape}
+use Rattle.record.specs.Layout.{isWitness}
 use Rattle.record.specs.Meaning.{Record, good, blank, bad, Entry, intact, broken, readEntry, entryPayload}
 use Rattle.record.specs.Exactly.{IntactFor}
 use Rattle.record.specs.Judged.{entryAnswer}
@@ -18,7 +19,7 @@ use Rattle.record.specs.declared.EntryState.{EntryState}
 use Rattle.record.specs.declared.EntryState.the-variants.{Intact, Broken}
 use Rattle.record.proofs.EntryLaws.{intact-for, intact-payload, intact-part}
 use Rattle.image.specs.Image.{Image, imageSize, index, entryAt, decodeUnder, decodeImage}
-use Rattle.image.specs.View.{Condition, Unused, Whole, RecordLost, Faulty, Lost, condition, conditionAt, readRefusal}
+use Rattle.image.specs.View.{Condition, Unused, Whole, RecordLost, Faulty, Lost, RecordOnly, condition, conditionAt, cardRefusal}
 use Rattle.image.specs.View.{conditionNumber}
 use Rattle.image.specs.Seen.{conditionsOf}
 use Rattle.image.specs.Scan.{SpanIn}
@@ -36,6 +37,7 @@ whole-number Whole = refl
 whole-number RecordLost = refl
 whole-number Faulty = refl
 whole-number Lost = refl
+whole-number RecordOnly = refl
 
 module _ (m slot : ℕ) (cs : List ℕ) where
   pub whole-low : slot < 1 → (i : Image) → take m cs ≡ conditionsOf m i → false ≡ hasPayload m i slot
@@ -104,15 +106,20 @@ intact-found k s e l h = go (readEntry k s) refl h
         (omega (arith, i .short), intact-payload k f p s i ∙ sym (rw z (intact-part k f p s i)))
     go (broken z) q g = absurd (let y : _≡_ {A = ℕ} 0 1 = cc in omega arith)
 
-module _ (Z : Shape) (first : ℕ) (b : Bytes) (k : ℕ) (h : k < Z .m) (a : EntryState) (there : (c : ℕ) → a ≡ entryAnswer (decodeUnder Z c first b .entries k)) where
-  pub span-none : a ≡ Broken → (c : ℕ) → isWhole (conditionAt (decodeUnder Z c first b) k) ≡ true
+module _ (Z : Shape) (first : ℕ) (b : Bytes) (k : ℕ) (h : k < Z .m) (a : EntryState) (there : (c : ℕ) → isWitness Z c ≡ false → a ≡ entryAnswer (decodeUnder Z c first b .entries k)) where
+  pub span-none : a ≡ Broken → (c : ℕ) → isWitness Z c ≡ false → isWhole (conditionAt (decodeUnder Z c first b) k) ≡ true
       → (part b 0 (0 - 0) ≡ entryPayload (part b (entryAt Z k) 240)) × (0 ≡ entryAt Z k + 26)
   unfolding conditionAt
-  span-none q c w = absurd (whole-intact (decodeUnder Z c first b .records k) (decodeUnder Z c first b .entries k) w (sym (there c) ∙ q))
+  span-none q c card w = absurd (whole-intact (decodeUnder Z c first b .records k) (decodeUnder Z c first b .entries k) w (sym (there c card) ∙ q))
+
+  -- no witness has number 0
+  none : isWitness Z 0 ≡ false
+  unfolding isWitness
+  none = refl
 
   module _ {e l : ℕ} (q : a ≡ Intact e l) where
     found : (l ≤ 200) × (entryPayload (part b (entryAt Z k) 240) ≡ part (part b (entryAt Z k) 240) 26 l)
-    found = intact-found (index first k) (part b (entryAt Z k) 240) e l (sym q ∙ there 0 ∙ ap entryAnswer (entry-under Z 0 first b k h))
+    found = intact-found (index first k) (part b (entryAt Z k) 240) e l (sym q ∙ there 0 none ∙ ap entryAnswer (entry-under Z 0 first b k none h))
 
     pub span-short : l ≤ 200
     span-short = found .0
@@ -129,7 +136,7 @@ module _ (Z : Shape) (first : ℕ) (b : Bytes) (k : ℕ) (h : k < Z .m) (a : Ent
 pub span-empty : (size : ℕ) → SpanIn size 0 0
 span-empty size = record { ordered = omega arith; within = omega arith }
 
-module _ (Z : Shape) (c : ℕ) (b : Bytes) (slot r : ℕ) (e : r ≡ readRefusal Z c b) where
+module _ (Z : Shape) (c : ℕ) (b : Bytes) (slot r : ℕ) (e : r ≡ cardRefusal Z c b) where
   pub no-payload-refused : ¬ (r ≡ 0) → (part b 0 (0 - 0) ≡ payloadOf Z c b slot) × (0 ≡ payloadAt Z c b slot)
   unfolding payloadOf payloadAt part
   no-payload-refused h = (sym (rw (← e, ne-eqb r 0 h)), sym (rw (← e, ne-eqb r 0 h)))
@@ -137,7 +144,7 @@ module _ (Z : Shape) (c : ℕ) (b : Bytes) (slot r : ℕ) (e : r ≡ readRefusal
   pub no-payload : (t : Bool) → t ≡ hasPayload (Z .m) (decodeImage Z c b) slot → not t ≡ true
       → (part b 0 (0 - 0) ≡ payloadOf Z c b slot) × (0 ≡ payloadAt Z c b slot)
   unfolding payloadOf payloadAt part
-  no-payload t s u = (sym (rw (← s, not-true t u, and-off (eqb (readRefusal Z c b) 0))), sym (rw (← s, not-true t u, and-off (eqb (readRefusal Z c b) 0))))
+  no-payload t s u = (sym (rw (← s, not-true t u, and-off (eqb (cardRefusal Z c b) 0))), sym (rw (← s, not-true t u, and-off (eqb (cardRefusal Z c b) 0))))
 
   pub payload-there : r ≡ 0 → hasPayload (Z .m) (decodeImage Z c b) slot ≡ true → (p : Bytes) {a : ℕ}
       → (p ≡ entryPayload (part b (entryAt Z (slot - 1)) 240)) × (a ≡ entryAt Z (slot - 1) + 26)

@@ -9,17 +9,18 @@ use Rattle.slices.specs.Parts.{Bytes, part}
 use Rattle.slices.specs.Same.{same}
 use Rattle.slices.proofs.SameLaws.{and-off, same-eq, same-differs}
 use Rattle.record.specs.declared.Shape.{Shape}
-use Rattle.record.specs.Layout.{headerSize, freshEntry}
+use Rattle.record.specs.Layout.{isWitness, headerSize, freshEntry}
 use Rattle.record.specs.Meaning.{Entry, good, blank, bad, intact, broken}
 use Rattle.record.specs.Exactly.{IntactFor}
 use Rattle.record.proofs.HeaderLaws.{read-first-high}
 use Rattle.record.proofs.EntryLaws.{intact-for, intact-payload, one-index}
 use Rattle.image.specs.Image.{Image, index, entryAt, firstIn, decodeImage}
-use Rattle.image.specs.View.{Unused, Whole, RecordLost, Faulty, condition, epochOf, conditionAt, epochAt, logLength, readRefusal}
+use Rattle.image.specs.View.{Unused, Whole, RecordLost, Faulty, condition, epochOf, conditionAt, epochAt, logLength, cardRefusal}
 use Rattle.image.specs.Verdict.{isFresh, verdictAt}
 use Rattle.image.specs.Read.{hasPayload, payloadOf}
 use Rattle.image.specs.ReadingClaim.{Stale, Reading}
 use Rattle.image.proofs.CallLaws.{slots-high}
+use Rattle.image.proofs.CardLaws.{card-card, card-readable}
 use Rattle.image.proofs.ReadLaws.{opened-slots}
 use Rattle.image.proofs.AcceptLaws.{readable-image}
 use Rattle.image.proofs.DecodeLaws.{entry-there}
@@ -91,7 +92,7 @@ module _ (m : ℕ) (i : Image) (k : ℕ) where
   unfolding conditionAt condition
   blank-unused r = rw r
 
-  good-epoch : (e : ℕ) → i .records k ≡ good e → epochAt i k ≡ e
+  pub good-epoch : (e : ℕ) → i .records k ≡ good e → epochAt i k ≡ e
   unfolding epochAt epochOf
   good-epoch e r = rw r
 
@@ -99,21 +100,24 @@ module _ (m : ℕ) (i : Image) (k : ℕ) where
   unfolding epochAt epochOf
   bad-epoch e z p r x = rw (r, x)
 
-  blank-epoch : i .records k ≡ blank → epochAt i k ≡ 0
+  pub blank-epoch : i .records k ≡ blank → epochAt i k ≡ 0
   unfolding epochAt epochOf
   blank-epoch r = rw r
 
--- ---- an image that is not refused
+-- ---- a card's image that is not refused
 
-module _ (Z : Shape) (c : ℕ) (b : Bytes) (ok : readRefusal Z c b ≡ 0) where
+module _ (Z : Shape) (c : ℕ) (b : Bytes) (ok : cardRefusal Z c b ≡ 0) where
   abbrev i : Image
   i = decodeImage Z c b
 
   abbrev len : ℕ
   len = logLength (Z .m) (decodeImage Z c b)
 
+  card : isWitness Z c ≡ false
+  card = card-card Z c b ok
+
   sound : Sound (Z .m) i
-  sound = readable-image Z c b ok
+  sound = readable-image Z c b (card-readable Z c b ok)
 
   few : Z .m ≤ 64
   few = slots-high (Z .m) (opened-slots Z c b 0 (sym ok) refl)
@@ -130,7 +134,7 @@ module _ (Z : Shape) (c : ℕ) (b : Bytes) (ok : readRefusal Z c b ≡ 0) where
   at-high k h = omega (arith, read-first-high Z c (part b 0 (headerSize Z)), few)
 
   fresh-at : (k : ℕ) → k < Z .m → isFresh (i .entries k) ≡ same (part b (entryAt Z k) 240) freshEntry
-  fresh-at k h = ap isFresh (entry-there Z c b k h) ∙ fresh-is (at k) (part b (entryAt Z k) 240)
+  fresh-at k h = ap isFresh (entry-there Z c b k card h) ∙ fresh-is (at k) (part b (entryAt Z k) 240)
 
   last-not : (k : ℕ) → k < Z .m → k ≡ len → ¬ (part b (entryAt Z k) 240 ≡ freshEntry) → verdictAt (Z .m) i k ≡ 5
   last-not k h l f =
@@ -150,13 +154,13 @@ module _ (Z : Shape) (c : ℕ) (b : Bytes) (ok : readRefusal Z c b ≡ 0) where
   there k e p h x =
       let z : suc k - 1 ≡ k = omega arith in
       let l : k < Z .m = omega (arith, has-below (Z .m) (suc k) i h) in
-      rw (ok, h, z) (intact-payload (at k) e p _ (intact-for (at k) _ e p (sym (entry-there Z c b k l) ∙ x)))
+      rw (ok, h, z) (intact-payload (at k) e p _ (intact-for (at k) _ e p (sym (entry-there Z c b k card l) ∙ x)))
 
   elsewhere : (k j e f : ℕ) (p : Bytes) → k < Z .m → j ≤ 4294967295 → i .records k ≡ good e → IntactFor j f p (part b (entryAt Z k) 240)
       → ¬ (j ≡ index (firstIn Z c b) k)
       → verdictAt (Z .m) i k ≡ cond (eqb (suc k) len) 4 3
   elsewhere k j e f p h l r x d =
-      good-noise (Z .m) i k e r (λ g q y. d (one-index j (at k) f g p q _ (omega arith) (at-high k h) x (intact-for (at k) _ g q (sym (entry-there Z c b k h) ∙ y))))
+      good-noise (Z .m) i k e r (λ g q y. d (one-index j (at k) f g p q _ (omega arith) (at-high k h) x (intact-for (at k) _ g q (sym (entry-there Z c b k card h) ∙ y))))
 
   pub reads : Reading Z c b i len
   unfolding hasPayload

@@ -1,25 +1,28 @@
 -- What refuses an image, number by number.
 use Prim.Native.Nat.{ℕ, zero, suc, _+_, _*_, _-_, _≤_, _<_}
-use mathlib.Core.Path.{_≡_, refl, sym, subst}
+use mathlib.Core.Path.{_≡_, refl, sym, ap, subst}
 use mathlib.Core.Bool.{Bool, true, false, cond, not, _&&_, true≢false}
+use mathlib.Core.List.{[]}
 use native.Mathlib.Omega.{arith}
 use native.Mathlib.Decide.{decLt}
 use lib.Dec.{eqb, leb}
 use lib.ListN.{length}
-use borrow.Author.Tests.{eqb-true, eq-eqb, leb-true}
+use borrow.Author.Tests.{eqb-true, eq-eqb, leb-true, not-true}
 use Rattle.slices.specs.Parts.{Bytes, part}
 use Rattle.slices.proofs.SameLaws.{and-left, and-right, and-true}
 use Rattle.record.specs.declared.Shape.{Shape}
-use Rattle.record.specs.Layout.{headerSize}
+use Rattle.record.specs.Layout.{isWitness, headerSize}
 use Rattle.record.specs.Meaning.{Header, proper, improper, Record, good, blank, bad, Entry, intact, broken, readHeader}
 use Rattle.record.specs.Exactly.{HeaderIs, SomeHeader}
 use Rattle.record.proofs.HeaderLaws.{header-is, proper-read}
 use Rattle.image.specs.Refusal.{refuse, _else_}
 use Rattle.image.specs.Image.{Image, imageSize, decodeUnder, decodeImage}
-use Rattle.image.specs.View.{Whole, Faulty, isSize, isReplica, isSlots, isEdition, isBlank, isProper, isLost, condition, conditionAt, logLength, noGap, noneLost, rising, imageRefusal, namedRefusal, callRefusal, readRefusal, epochAt}
-use Rattle.image.specs.RefusalClaim.{Lowest, ReadPasses}
+use Rattle.image.specs.View.{Whole, Faulty, isSize, isReplica, isSlots, isEdition, isBlank, isProper, isLost, condition, conditionAt, logLength, noGap, noneLost, rising, imageRefusal, namedRefusal, callRefusal, readRefusal, cardRefusal, witnessRefusal, epochAt}
+use Rattle.image.specs.RefusalClaim.{Lowest, NoneLost, NoneBad, Passes, ReadPasses, CardPasses, WitnessPasses}
 use Rattle.image.proofs.CallLaws.{is-slots, slots-low, slots-high, is-size, size-low, size-high, is-replica, is-edition, edition-from, edition-to}
 use Rattle.image.proofs.ViewLaws.{length-le, used-below, blank-next, gap-elim, gap-intro, lost-elim, lost-intro, rising-intro, rising-all}
+use Rattle.image.proofs.CardLaws.{card-chain, witness-chain}
+use Rattle.image.proofs.DecodeLaws.{none-there}
 use Rattle.image.proofs.LowestLaws.{From, Decides, try, last-of, else-assoc}
 
 -- ---- 1 to 3
@@ -50,6 +53,9 @@ named-decides Z c =
 
 bytes-decides : (Z : Shape) (c size : ℕ) → Decides (eqb size (imageSize Z c)) (size ≡ imageSize Z c)
 bytes-decides Z c size = record { so = eqb-true size (imageSize Z c); back = eq-eqb size (imageSize Z c) }
+
+not-decides : (t : Bool) → Decides (not t) (t ≡ false)
+not-decides t = record { so = not-true t; back = λ p. ap not p }
 
 -- ---- 4
 
@@ -99,7 +105,7 @@ module _ (m : ℕ) (i : Image) where
   lost-is (bad y) (intact e p) f = refl
   lost-is (bad y) (broken z) f = absurd (f y z refl refl)
 
-  lost-decides : Decides (noneLost m i) ((k : ℕ) (y z : Bytes) → k < m → i .records k ≡ bad y → ¬ (i .entries k ≡ broken z))
+  lost-decides : Decides (noneLost m i) (NoneLost m i)
   unfolding conditionAt
   lost-decides = record {
     so = λ l k y z h r x. lost (lost-elim m i l k h) r x;
@@ -108,6 +114,13 @@ module _ (m : ℕ) (i : Image) where
     where
       lost : {r : Record} {x : Entry} {y z : Bytes} → isLost (condition r x) ≡ false → r ≡ bad y → ¬ (x ≡ broken z)
       lost h e f = true≢false (unfold isLost condition in rw (e, f) at h)
+
+  -- without entries any bad record is lost
+  bad-decides : ((k : ℕ) → i .entries k ≡ broken []) → Decides (noneLost m i) (NoneBad m i)
+  bad-decides bare = record {
+    so = λ l k y h r. lost-decides .so l k y [] h r (bare k);
+    back = λ p. lost-decides .back (λ k y z h r x. p k y h r);
+  }
 
   -- of an image without a gap
   rising-decides : noGap m i ≡ true
@@ -124,14 +137,14 @@ module _ (m : ℕ) (i : Image) where
 
 -- ---- all of them
 
-module _ (Z : Shape) (c : ℕ) (b : Bytes) where
+module _ (Z : Shape) (c : ℕ) (b : Bytes) (three six : Type 0) where
   abbrev i : Image
   i = decodeImage Z c b
 
-  abbrev Passes : ℕ → Type 0
-  Passes = ReadPasses Z c b (decodeImage Z c b)
+  abbrev Each : ℕ → Type 0
+  Each = Passes three six Z c b (decodeImage Z c b)
 
-  beyond : (q : ℕ) → 8 ≤ q → Passes q
+  beyond : (q : ℕ) → 8 ≤ q → Each q
   beyond zero h = absurd (omega arith)
   beyond (suc zero) h = absurd (omega arith)
   beyond (suc (suc zero)) h = absurd (omega arith)
@@ -142,37 +155,57 @@ module _ (Z : Shape) (c : ℕ) (b : Bytes) where
   beyond (suc (suc (suc (suc (suc (suc (suc zero))))))) h = absurd (omega arith)
   beyond (suc (suc (suc (suc (suc (suc (suc (suc q)))))))) h = tt
 
-  of-image : From Passes 4 (imageRefusal (Z .m) i)
+  of-image : Decides (noneLost (Z .m) (decodeImage Z c b)) six → From Each 4 (imageRefusal (Z .m) i)
   unfolding imageRefusal decodeImage decodeUnder
-  of-image =
-      try Passes 4 (isProper (i .header)) _ (λ e. omega arith) (header-decides Z c (part b 0 (headerSize Z)))
-      (λ _. try Passes 5 (noGap (Z .m) i) _ (λ e. omega arith) (gap-decides (Z .m) i)
-      (λ g. try Passes 6 (noneLost (Z .m) i) _ (λ e. omega arith) (lost-decides (Z .m) i)
+  of-image lost =
+      try Each 4 (isProper (i .header)) _ (λ e. omega arith) (header-decides Z c (part b 0 (headerSize Z)))
+      (λ _. try Each 5 (noGap (Z .m) i) _ (λ e. omega arith) (gap-decides (Z .m) i)
+      (λ g. try Each 6 (noneLost (Z .m) i) _ (λ e. omega arith) lost
       (λ _. seven (gap-decides (Z .m) i .back g))))
     where
-      seven : noGap (Z .m) i ≡ true → From Passes 7 (refuse 7 (not (rising (Z .m) i)))
-      seven g = subst (From Passes 7) (end (refuse 7 (not (rising (Z .m) i))))
-          (try Passes 7 (rising (Z .m) i) 0 (λ e. omega arith) (rising-decides (Z .m) i g) (λ _. last-of Passes 8 beyond))
+      seven : noGap (Z .m) i ≡ true → From Each 7 (refuse 7 (not (rising (Z .m) i)))
+      seven g = subst (From Each 7) (end (refuse 7 (not (rising (Z .m) i))))
+          (try Each 7 (rising (Z .m) i) 0 (λ e. omega arith) (rising-decides (Z .m) i g) (λ _. last-of Each 8 beyond))
         where
           end : (r : ℕ) → (r else 0) ≡ r
           end zero = unfold _else_ in refl
           end (suc r) = unfold _else_ in refl
 
-  from-one : From Passes 1 (readRefusal Z c b)
-  unfolding readRefusal callRefusal namedRefusal
-  from-one =
-      rw (else-assoc, else-assoc)
-      (try Passes 1 (isSlots (Z .m)) _ (λ e. omega arith) (slots-decides (Z .m))
-      (λ _. try Passes 2 (isSize (Z .n) && isEdition (Z .edition) && isReplica (Z .n) c) _ (λ e. omega arith) (named-decides Z c)
-      (λ _. try Passes 3 (eqb (length b) (imageSize Z c)) _ (λ e. omega arith) (bytes-decides Z c (length b)) (λ _. of-image))))
+  module _ (t : Bool) (sized : Decides t three) (lost : three → Decides (noneLost (Z .m) (decodeImage Z c b)) six) where
+    from-one : From Each 1 ((namedRefusal Z c else refuse 3 (not t)) else imageRefusal (Z .m) i)
+    unfolding namedRefusal
+    from-one =
+        rw (else-assoc, else-assoc)
+        (try Each 1 (isSlots (Z .m)) _ (λ e. omega arith) (slots-decides (Z .m))
+        (λ _. try Each 2 (isSize (Z .n) && isEdition (Z .edition) && isReplica (Z .n) c) _ (λ e. omega arith) (named-decides Z c)
+        (λ _. try Each 3 t _ (λ e. omega arith) sized (λ x. of-image (lost x)))))
 
+    lowest-of : {r : ℕ} → r ≡ ((namedRefusal Z c else refuse 3 (not t)) else imageRefusal (Z .m) i) → Lowest Each r
+    lowest-of is = rw is (record {
+      applies = from-one .applies;
+      below = λ z q h. all q (λ l. from-one .below z q l h);
+      none = λ z q. all q (from-one .none z q);
+    })
+      where
+        all : (q : ℕ) → (1 ≤ q → Each q) → Each q
+        all zero f = tt
+        all (suc q) f = f (omega arith)
+
+-- a call for any image, for cards, for witnesses
+module _ (Z : Shape) (c : ℕ) (b : Bytes) where
   pub lowest-wins : Lowest (ReadPasses Z c b (decodeImage Z c b)) (readRefusal Z c b)
-  lowest-wins = record {
-    applies = from-one .applies;
-    below = λ z q h. all q (λ l. from-one .below z q l h);
-    none = λ z q. all q (from-one .none z q);
-  }
-    where
-      all : (q : ℕ) → (1 ≤ q → Passes q) → Passes q
-      all zero f = tt
-      all (suc q) f = f (omega arith)
+  lowest-wins =
+      lowest-of Z c b (length b ≡ imageSize Z c) _ (eqb (length b) (imageSize Z c)) (bytes-decides Z c (length b)) (λ _. lost-decides (Z .m) (decodeImage Z c b))
+      (unfold readRefusal callRefusal in refl)
+
+  pub lowest-card : Lowest (CardPasses Z c b (decodeImage Z c b)) (cardRefusal Z c b)
+  lowest-card =
+      lowest-of Z c b ((isWitness Z c ≡ false) × (length b ≡ imageSize Z c)) _ (not (isWitness Z c) && eqb (length b) (imageSize Z c))
+      (both-decide (not (isWitness Z c)) (eqb (length b) (imageSize Z c)) (not-decides (isWitness Z c)) (bytes-decides Z c (length b)))
+      (λ _. lost-decides (Z .m) (decodeImage Z c b)) (card-chain Z c b)
+
+  pub lowest-witness : Lowest (WitnessPasses Z c b (decodeImage Z c b)) (witnessRefusal Z c b)
+  lowest-witness =
+      lowest-of Z c b ((isWitness Z c ≡ true) × (length b ≡ imageSize Z c)) _ (isWitness Z c && eqb (length b) (imageSize Z c))
+      (both-decide (isWitness Z c) (eqb (length b) (imageSize Z c)) (record { so = λ e. e; back = λ p. p }) (bytes-decides Z c (length b)))
+      (λ p. bad-decides (Z .m) (decodeImage Z c b) (λ k. none-there Z c b k (p .0))) (witness-chain Z c b)

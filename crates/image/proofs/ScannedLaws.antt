@@ -15,7 +15,7 @@ use Rattle.search.proofs.ListedLaws.{getD-listed}
 use Rattle.record.specs.Meaning.{Record, good, blank, bad, Entry, intact, broken}
 use Rattle.image.specs.Refusal.{refuse, _else_}
 use Rattle.image.specs.Image.{Image}
-use Rattle.image.specs.View.{Condition, Unused, Whole, RecordLost, Faulty, Lost, condition, conditionAt, epochAt, isBlank, isLost, logLength, noGap, noneLost, rising}
+use Rattle.image.specs.View.{Condition, Unused, Whole, RecordLost, Faulty, Lost, RecordOnly, condition, conditionAt, epochAt, isBlank, isLost, logLength, noGap, noneLost, rising}
 use Rattle.image.specs.View.{conditionNumber}
 use Rattle.image.specs.Seen.{conditionsOf}
 use Rattle.image.specs.Scan.{Scanned, lengthIn, noGapIn, noneLostIn, risingIn, scanRefusal}
@@ -42,6 +42,7 @@ lost-number Whole = refl
 lost-number RecordLost = refl
 lost-number Faulty = refl
 lost-number Lost = refl
+lost-number RecordOnly = refl
 
 -- ---- the image that was scanned
 

@@ -1,6 +1,7 @@
 -- One slot of the scan: what its record and its entry are found to be gives its condition and its epoch.
 use Prim.Native.Nat.{ℕ, _+_, _-_, _≤_, _<_}
 use mathlib.Core.Path.{_≡_, refl, sym, _∙_}
+use mathlib.Core.Bool.{true, false}
 use mathlib.Core.List.{List, [], _∷_}
 use native.Mathlib.Omega.{arith}
 use native.Mathlib.Numerals.{add-one}
@@ -13,6 +14,7 @@ use Rattle.search.specs.Search.{listed}
 use Rattle.slices.specs.Parts.{Bytes}
 use Rattle.slices.proofs.SpliceLaws.{part-lent}
 use Rattle.record.specs.declared.Shape.{Shape}
+use Rattle.record.specs.Layout.{isWitness}
 use Rattle.record.specs.Meaning.{Record, good, blank, bad, Entry, intact, broken, readRecord, readEntry}
 use Rattle.record.specs.Judged.{recordAnswer, entryAnswer}
 use Rattle.record.specs.declared.RecordState.{RecordState}
@@ -25,7 +27,7 @@ use Rattle.image.specs.View.{condition, epochOf, conditionAt, epochAt}
 use Rattle.image.specs.View.{conditionNumber}
 use Rattle.image.specs.Seen.{conditionsOf}
 use Rattle.image.specs.Scan.{SlotIs, Scanned}
-use Rattle.image.proofs.DecodeLaws.{record-under, entry-under}
+use Rattle.image.proofs.DecodeLaws.{record-under, entry-under, none-under}
 
 -- ---- the parts of the image that are judged
 
@@ -35,8 +37,13 @@ module _ (Z : Shape) (first : ℕ) (b : Bytes) (k : ℕ) (h : k < Z .m) {at j : 
   record-judged p e c = e ∙ rw (q, part-lent b at 34, record-under Z c first b k h, p)
 
   pub entry-judged : at ≡ entryAt Z k → {a : EntryState} → a ≡ entryAnswer (readEntry j (take (at + 240 - at) (drop at b)))
-      → (c : ℕ) → a ≡ entryAnswer (decodeUnder Z c first b .entries k)
-  entry-judged p e c = e ∙ rw (q, part-lent b at 240, entry-under Z c first b k h, p)
+      → (c : ℕ) → isWitness Z c ≡ false → a ≡ entryAnswer (decodeUnder Z c first b .entries k)
+  entry-judged p e c card = e ∙ rw (q, part-lent b at 240, entry-under Z c first b k card h, p)
+
+-- a witness has no entry, and so none that is intact
+pub entry-none : (Z : Shape) (c first : ℕ) (b : Bytes) (k : ℕ) {a : EntryState} → isWitness Z c ≡ true → a ≡ Broken → a ≡ entryAnswer (decodeUnder Z c first b .entries k)
+unfolding entryAnswer
+entry-none Z c first b k witness h = h ∙ sym (rw (none-under Z c first b k witness))
 
 -- ---- a good record
 

@@ -8,7 +8,7 @@ use borrow.Author.Tests.{eqb-true, eqb-false}
 use Rattle.slices.specs.Parts.{Bytes}
 use Rattle.record.specs.Meaning.{Record, good, blank, bad, Entry, intact, broken}
 use Rattle.image.specs.Image.{Image}
-use Rattle.image.specs.View.{Condition, Unused, Whole, RecordLost, Faulty, Lost, condition, epochOf, conditionAt, epochAt, logLength}
+use Rattle.image.specs.View.{Condition, Unused, Whole, RecordLost, Faulty, Lost, RecordOnly, condition, epochOf, conditionAt, epochAt, logLength}
 use Rattle.image.specs.Verdict.{isFresh, verdictOf, verdictAt}
 use Rattle.image.specs.Read.{isWhole}
 
@@ -22,6 +22,7 @@ pub data Says (len k : ℕ) (x : Entry) : Condition → ℕ → Type 0 where
   says-unfinished : Says len k x Unused 5
   says-unused : Says len k x Unused 0
   says-lost : Says len k x Lost 0
+  says-record-only : Says len k x RecordOnly 0
 
 says : (len k : ℕ) (a : Condition) (x : Entry) → Says len k x a (verdictOf len k a x)
 unfolding verdictOf
@@ -39,6 +40,7 @@ says len k Unused x = go (eqb k len && not (isFresh x))
     go true = says-unfinished
     go false = says-unused
 says len k Lost x = says-lost
+says len k RecordOnly x = says-record-only
 
 pub verdict-says : (m : ℕ) (i : Image) (k : ℕ) → Says (logLength m i) k (i .entries k) (conditionAt i k) (verdictAt m i k)
 unfolding verdictAt
@@ -58,6 +60,7 @@ module _ {len k : ℕ} {x : Entry} where
   whole-is says-unfinished = refl
   whole-is says-unused = refl
   whole-is says-lost = refl
+  whole-is says-record-only = refl
 
   one-is : {a : Condition} {v : ℕ} → Says len k x a v → v ≡ 1 → a ≡ Whole
   one-is says-whole h = refl
@@ -68,6 +71,7 @@ module _ {len k : ℕ} {x : Entry} where
   one-is says-unfinished h = absurd (omega (arith, h))
   one-is says-unused h = absurd (omega (arith, h))
   one-is says-lost h = absurd (omega (arith, h))
+  one-is says-record-only h = absurd (omega (arith, h))
 
   six-is : {a : Condition} {v : ℕ} → Says len k x a v → v ≡ 6 → (a ≡ Faulty) × ((e : ℕ) × (p : Bytes) × (x ≡ intact e p))
   six-is says-whole h = absurd (omega (arith, h))
@@ -78,6 +82,7 @@ module _ {len k : ℕ} {x : Entry} where
   six-is says-unfinished h = absurd (omega (arith, h))
   six-is says-unused h = absurd (omega (arith, h))
   six-is says-lost h = absurd (omega (arith, h))
+  six-is says-record-only h = absurd (omega (arith, h))
 
   four-is : {a : Condition} {v : ℕ} → Says len k x a v → v ≡ 4 → (a ≡ Faulty) × (len ≡ suc k)
   four-is says-whole h = absurd (omega (arith, h))
@@ -88,6 +93,7 @@ module _ {len k : ℕ} {x : Entry} where
   four-is says-unfinished h = absurd (omega (arith, h))
   four-is says-unused h = absurd (omega (arith, h))
   four-is says-lost h = absurd (omega (arith, h))
+  four-is says-record-only h = absurd (omega (arith, h))
 
   -- 3 and 4 are said of an entry that is not intact
   noise-is : {a : Condition} {v : ℕ} → Says len k x a v → 3 ≤ v → v ≤ 4 → (b : Bytes) × (x ≡ broken b)
@@ -99,6 +105,7 @@ module _ {len k : ℕ} {x : Entry} where
   noise-is says-unfinished l u = absurd (omega arith)
   noise-is says-unused l u = absurd (omega arith)
   noise-is says-lost l u = absurd (omega arith)
+  noise-is says-record-only l u = absurd (omega arith)
 
 -- ---- a faulty slot
 

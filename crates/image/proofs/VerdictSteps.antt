@@ -13,7 +13,7 @@ use Rattle.slices.proofs.SameLaws.{and-off, same-differs}
 use Rattle.slices.proofs.PartLaws.{length-part}
 use Rattle.slices.proofs.SpliceLaws.{part-lent}
 use Rattle.record.specs.declared.Shape.{Shape}
-use Rattle.record.specs.Layout.{freshEntry}
+use Rattle.record.specs.Layout.{isWitness, freshEntry}
 use Rattle.record.specs.Meaning.{Entry, intact, broken, readEntry}
 use Rattle.record.specs.Exactly.{EntryIs}
 use Rattle.record.specs.Judged.{entryAnswer}
@@ -21,7 +21,7 @@ use Rattle.record.specs.declared.EntryState.{EntryState}
 use Rattle.record.specs.declared.EntryState.the-variants.{Intact, Broken}
 use Rattle.record.proofs.EntryLaws.{entry-is, fresh-not-intact}
 use Rattle.image.specs.Image.{Image, imageSize, entryAt, index, decodeUnder}
-use Rattle.image.specs.View.{Condition, Unused, Whole, RecordLost, Faulty, Lost, conditionAt}
+use Rattle.image.specs.View.{Condition, Unused, Whole, RecordLost, Faulty, Lost, RecordOnly, conditionAt}
 use Rattle.image.specs.View.{conditionNumber}
 use Rattle.image.specs.Seen.{conditionsOf}
 use Rattle.image.specs.Verdict.{isFresh, verdictOf, verdictAt}
@@ -38,7 +38,8 @@ conditionOf zero = Unused
 conditionOf (suc zero) = Whole
 conditionOf (suc (suc zero)) = RecordLost
 conditionOf (suc (suc (suc zero))) = Faulty
-conditionOf (suc (suc (suc (suc n)))) = Lost
+conditionOf (suc (suc (suc (suc zero)))) = Lost
+conditionOf (suc (suc (suc (suc (suc n))))) = RecordOnly
 
 condition-back : (a : Condition) → conditionOf (conditionNumber a) ≡ a
 unfolding conditionOf
@@ -47,6 +48,7 @@ condition-back Whole = refl
 condition-back RecordLost = refl
 condition-back Faulty = refl
 condition-back Lost = refl
+condition-back RecordOnly = refl
 
 -- a number says which condition it is
 pub named : (a b : Condition) → conditionNumber a ≡ conditionNumber b → a ≡ b
@@ -64,12 +66,12 @@ fresh-is k s = go (readEntry k s) (entry-is k s)
 
 module _ (Z : Shape) (first : ℕ) (b : Bytes) (k : ℕ) (size : entryAt Z (Z .m) ≤ length b) {at : ℕ} (place : at ≡ entryAt Z k) where
   pub fresh-judged : {t : Bool} → t ≡ same (take (at + 240 - at) (drop at b)) (replicate (length (take (at + 240 - at) (drop at b))) 32)
-      → (c : ℕ) → k < Z .m → t ≡ isFresh (decodeUnder Z c first b .entries k)
+      → (c : ℕ) → isWitness Z c ≡ false → k < Z .m → t ≡ isFresh (decodeUnder Z c first b .entries k)
   unfolding freshEntry
-  fresh-judged e c h =
+  fresh-judged e c card h =
       let l : length (part b at 240) ≡ 240 = length-part b at 240 (omega (arith, entry-ends Z k h)) in
       let q : same (take (at + 240 - at) (drop at b)) (replicate (length (take (at + 240 - at) (drop at b))) 32) ≡ isFresh (decodeUnder Z c first b .entries k)
-      = rw (part-lent b at 240, l, entry-under Z c first b k h, ← place) (sym (fresh-is (index first k) (part b at 240))) in
+      = rw (part-lent b at 240, l, entry-under Z c first b k card h, ← place) (sym (fresh-is (index first k) (part b at 240))) in
       e ∙ q
 
 -- ---- the verdict of a slot
@@ -120,17 +122,23 @@ module _ (number k used : ℕ) (x : Entry) where
   pub verdict-by : (v : ℕ) (b : Condition) → number ≡ conditionNumber b → v ≡ verdictOf used k b x → VerdictIs v
   verdict-by v b h q a e = q ∙ ap (λ (d : Condition). verdictOf used k d x) (named b a (sym h ∙ e))
 
-  pub verdict-none : number ≡ 4 → VerdictIs 0
+  pub verdict-none : 4 ≤ number → VerdictIs 0
   unfolding verdictOf
-  verdict-none h = verdict-by 0 Lost h refl
+  verdict-none h Unused e = omega (arith, e)
+  verdict-none h Whole e = omega (arith, e)
+  verdict-none h RecordLost e = omega (arith, e)
+  verdict-none h Faulty e = omega (arith, e)
+  verdict-none h Lost e = refl
+  verdict-none h RecordOnly e = refl
 
-  pub verdict-same : ¬ (number ≡ 4) → ¬ (number ≡ 3) → ¬ (number ≡ 0) → VerdictIs number
+  pub verdict-same : number < 4 → ¬ (number ≡ 3) → ¬ (number ≡ 0) → VerdictIs number
   unfolding verdictOf
   verdict-same h l q Unused e = absurd (q e)
   verdict-same h l q Whole e = e
   verdict-same h l q RecordLost e = e
   verdict-same h l q Faulty e = absurd (l e)
-  verdict-same h l q Lost e = absurd (h e)
+  verdict-same h l q Lost e = omega (arith, e)
+  verdict-same h l q RecordOnly e = omega (arith, e)
 
 -- ---- the slots one after another
 

@@ -8,9 +8,10 @@ use Rattle.slices.specs.Parts.{Bytes}
 use Rattle.record.specs.declared.Shape.{Shape}
 use Rattle.image.specs.Refusal.{unlessRefused}
 use Rattle.image.specs.Image.{firstIn, decodeImage}
-use Rattle.image.specs.View.{readRefusal, logLength}
+use Rattle.image.specs.View.{cardRefusal, logLength}
 use Rattle.image.specs.Read.{lentRefusal, epochsOf, verdictsOf, hasPayload}
 use Rattle.image.specs.Append.{formatRefusal, appendRefusal}
+use Rattle.image.specs.Witness.{epochsRefusal, recordRefusal}
 use Rattle.image.specs.declared.FormatAnswer.{FormatAnswer}
 use Rattle.image.specs.declared.FormatAnswer.the-variants as format
 use Rattle.image.specs.declared.ReadAnswer.{ReadAnswer}
@@ -54,7 +55,7 @@ payloadNumbers (payload.Refused r) = refused r
 abbrev pub formatCallNumbers : Shape → ℕ → ℕ → ℕ → Numbered (Unit {0})
 formatCallNumbers Z c first size = numbered (formatRefusal Z c first size) tt
 
--- reading replica c's image, lent buffers of so many epochs and verdicts: the answer
+-- reading replica c's image, a card's, lent buffers of so many epochs and verdicts: the answer
 abbrev pub readCallNumbers : Shape → ℕ → Bytes → ℕ → ℕ → Numbered (ℕ × ℕ)
 readCallNumbers Z c b epochs verdicts = numbered (lentRefusal Z c b epochs verdicts) (logLength (Z .m) (decodeImage Z c b), firstIn Z c b)
 
@@ -65,10 +66,21 @@ epochsLeft Z c b epochs verdicts = unlessRefused (lentRefusal Z c b (length epoc
 abbrev pub verdictsLeft : Shape → ℕ → Bytes → ℕ → List ℕ → List ℕ
 verdictsLeft Z c b epochs verdicts = unlessRefused (lentRefusal Z c b epochs (length verdicts)) (verdictsOf (Z .m) (decodeImage Z c b)) verdicts
 
--- an append to replica c's image, of epoch e and a payload of so many bytes: the first unused slot's number
+-- an append to replica c's image, a card's, of epoch e and a payload of so many bytes: the first unused slot's number
 abbrev pub appendCallNumbers : Shape → ℕ → Bytes → ℕ → ℕ → Numbered ℕ
 appendCallNumbers Z c b e size = numbered (appendRefusal Z c b e size) (suc (logLength (Z .m) (decodeImage Z c b)))
 
 -- whether slot number s of replica c's image has a payload
 abbrev pub payloadCallNumbers : Shape → ℕ → Bytes → ℕ → Numbered Bool
-payloadCallNumbers Z c b s = numbered (readRefusal Z c b) (hasPayload (Z .m) (decodeImage Z c b) s)
+payloadCallNumbers Z c b s = numbered (cardRefusal Z c b) (hasPayload (Z .m) (decodeImage Z c b) s)
+
+-- reading replica c's image, a witness's (02, Seven), lent a buffer of so many epochs: the answer, and what it leaves in it
+abbrev pub witnessCallNumbers : Shape → ℕ → Bytes → ℕ → Numbered (ℕ × ℕ)
+witnessCallNumbers Z c b epochs = numbered (epochsRefusal Z c b epochs) (logLength (Z .m) (decodeImage Z c b), firstIn Z c b)
+
+abbrev pub witnessEpochsLeft : Shape → ℕ → Bytes → List ℕ → List ℕ
+witnessEpochsLeft Z c b epochs = unlessRefused (epochsRefusal Z c b (length epochs)) (epochsOf (Z .m) (decodeImage Z c b)) epochs
+
+-- an append to replica c's image, a witness's, of epoch e: the first unused slot's number
+abbrev pub recordCallNumbers : Shape → ℕ → Bytes → ℕ → Numbered ℕ
+recordCallNumbers Z c b e = numbered (recordRefusal Z c b e) (suc (logLength (Z .m) (decodeImage Z c b)))

@@ -1,4 +1,4 @@
--- Document 01, "Appending": the entry and then the record of the first unused slot.
+-- Document 01, "Appending": the entry and then the record of the first unused slot of a card; and a fresh image, a witness's too.
 use Prim.Native.Nat.{ℕ, suc, _-_}
 use mathlib.Core.Bool.{Bool, cond, not, _&&_, _||_}
 use mathlib.Core.List.{List, [], _∷_}
@@ -10,7 +10,7 @@ use Rattle.record.specs.Layout.{recordBytes, entryBytes}
 use Rattle.record.specs.Meaning.{isFirst}
 use Rattle.image.specs.Refusal.{refuse, _else_}
 use Rattle.image.specs.Image.{Image, index, firstIn, decodeImage, imageSize, recordAt, entryAt, freshImage}
-use Rattle.image.specs.View.{namedRefusal, readRefusal, logLength, epochAt}
+use Rattle.image.specs.View.{namedRefusal, cardRefusal, logLength, epochAt}
 
 -- the last used slot's epoch, 0 for an empty log
 unfoldable pub lastEpoch : ℕ → Image → ℕ
@@ -18,7 +18,7 @@ lastEpoch m i = cond (eqb (logLength m i) 0) 0 (epochAt i (logLength m i - 1))
 
 unfoldable pub appendRefusal : Shape → ℕ → Bytes → ℕ → ℕ → ℕ
 appendRefusal Z c b e size =
-    readRefusal Z c b
+    cardRefusal Z c b
     else refuse 8 (eqb e 0 || ltb e (lastEpoch (Z .m) (decodeImage Z c b)))
     else refuse 9 (ltb 200 size)
     else refuse 10 (leb (Z .m) (logLength (Z .m) (decodeImage Z c b)))

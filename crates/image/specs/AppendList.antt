@@ -1,4 +1,4 @@
--- A list of appends, one after another, and what reading answers then.
+-- A list of appends to a card's image, one after another, and what reading answers then.
 use Prim.Native.Nat.{ℕ, suc, _-_, _≤_, _<_}
 use mathlib.Core.Path.{_≡_}
 use mathlib.Core.Bool.{true}
@@ -7,7 +7,7 @@ use lib.ListN.{length, getD, replicate}
 use Rattle.slices.specs.Parts.{Bytes}
 use Rattle.record.specs.declared.Shape.{Shape}
 use Rattle.image.specs.Image.{firstIn, decodeImage}
-use Rattle.image.specs.View.{readRefusal, logLength}
+use Rattle.image.specs.View.{cardRefusal, logLength}
 use Rattle.image.specs.Read.{epochsOf, verdictsOf, hasPayload, payloadOf}
 use Rattle.image.specs.Append.{appendRefusal, appended}
 
@@ -36,7 +36,7 @@ payloadsIn l = map (λ (a : Appending). a .payload) l
 
 -- reading b answers these: where the log begins, so many slots, their epochs and then 0, verdicts 1 and then 0, their payloads and no others
 pub record ReadsAs (Z : Shape) (c first : ℕ) (b : Bytes) (l : List Appending) : Type 0 where
-  pub readable : readRefusal Z c b ≡ 0
+  pub readable : cardRefusal Z c b ≡ 0
   pub begins : firstIn Z c b ≡ first
   pub many : logLength (Z .m) (decodeImage Z c b) ≡ length l
   pub epochs : epochsOf (Z .m) (decodeImage Z c b) ≡ epochsIn l ++ replicate (Z .m - length l) 0

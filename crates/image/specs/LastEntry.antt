@@ -7,7 +7,7 @@ use Rattle.record.specs.declared.Shape.{Shape}
 use Rattle.record.specs.Layout.{entrySize, recordBytes, blankRecord}
 use Rattle.record.specs.Meaning.{intact, readEntry}
 use Rattle.image.specs.Image.{index, firstIn, recordAt, entryAt, decodeImage}
-use Rattle.image.specs.View.{epochAt, logLength, readRefusal}
+use Rattle.image.specs.View.{epochAt, logLength, cardRefusal}
 use Rattle.image.specs.Verdict.{verdictAt}
 use Rattle.image.specs.Append.{appendRefusal, appended}
 
@@ -36,12 +36,12 @@ MayBeTorn j e p x = (f : ℕ) (q : Bytes) → readEntry j x ≡ intact f q → (
 
 pub record LastEntry : Type 0 where
   -- every image with verdict 4 has both, and the append's entry store may have been cut in the middle
-  pub untold : (Z : Shape) (c : ℕ) (b : Bytes) (k : ℕ) → readRefusal Z c b ≡ 0 → verdictAt (Z .m) (decodeImage Z c b) k ≡ 4 → Untold Z c b k
-  pub torn : (Z : Shape) (c : ℕ) (b : Bytes) (k : ℕ) → readRefusal Z c b ≡ 0 → verdictAt (Z .m) (decodeImage Z c b) k ≡ 4
+  pub untold : (Z : Shape) (c : ℕ) (b : Bytes) (k : ℕ) → cardRefusal Z c b ≡ 0 → verdictAt (Z .m) (decodeImage Z c b) k ≡ 4 → Untold Z c b k
+  pub torn : (Z : Shape) (c : ℕ) (b : Bytes) (k : ℕ) → cardRefusal Z c b ≡ 0 → verdictAt (Z .m) (decodeImage Z c b) k ≡ 4
       → (p : Bytes) → MayBeTorn (index (firstIn Z c b) k) (epochAt (decodeImage Z c b) k) p (part b (entryAt Z k) entrySize)
   -- with verdict 6 at the last used slot it has both too (02, Two), but there the append's entry store was not cut in the middle: of the two
   -- stores its record's alone arrived
-  pub stale-untold : (Z : Shape) (c : ℕ) (b : Bytes) (k : ℕ) → readRefusal Z c b ≡ 0 → verdictAt (Z .m) (decodeImage Z c b) k ≡ 6
+  pub stale-untold : (Z : Shape) (c : ℕ) (b : Bytes) (k : ℕ) → cardRefusal Z c b ≡ 0 → verdictAt (Z .m) (decodeImage Z c b) k ≡ 6
       → logLength (Z .m) (decodeImage Z c b) ≡ suc k → Untold Z c b k
-  pub stale-not-torn : (Z : Shape) (c : ℕ) (b : Bytes) (k : ℕ) → readRefusal Z c b ≡ 0 → verdictAt (Z .m) (decodeImage Z c b) k ≡ 6
+  pub stale-not-torn : (Z : Shape) (c : ℕ) (b : Bytes) (k : ℕ) → cardRefusal Z c b ≡ 0 → verdictAt (Z .m) (decodeImage Z c b) k ≡ 6
       → logLength (Z .m) (decodeImage Z c b) ≡ suc k → (p : Bytes) → ¬ (MayBeTorn (index (firstIn Z c b) k) (epochAt (decodeImage Z c b) k) p (part b (entryAt Z k) entrySize))

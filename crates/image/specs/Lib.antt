@@ -8,10 +8,12 @@ pub mod Seen
 pub mod Scan
 pub mod Read
 pub mod Append
+pub mod Witness
 pub mod Cluster
 pub mod Fits
 pub mod Answers
 pub mod AppendList
+pub mod WitnessClaim
 pub mod AppendClaim
 pub mod LastEntry
 pub mod ReadingClaim

@@ -10,9 +10,10 @@ use Rattle.record.specs.Layout.{entrySize, freshEntry}
 use Rattle.record.specs.Meaning.{good, blank, bad, intact}
 use Rattle.record.specs.Exactly.{IntactFor}
 use Rattle.image.specs.Image.{Image, index, firstIn, entryAt, decodeImage}
-use Rattle.image.specs.View.{isBlank, epochAt, logLength, readRefusal}
+use Rattle.image.specs.View.{isBlank, epochAt, logLength, cardRefusal, witnessRefusal}
 use Rattle.image.specs.Verdict.{verdictAt}
 use Rattle.image.specs.Read.{hasPayload, payloadOf}
+use Rattle.image.specs.WitnessClaim.{WitnessReading}
 
 -- 02's stale (Two): the record is good, and the entry is intact for that slot with another epoch
 pub record Stale (i : Image) (k : ℕ) : Type 0 where
@@ -23,7 +24,7 @@ pub record Stale (i : Image) (k : ℕ) : Type 0 where
   pub intact-entry : i .entries k ≡ intact written payload
   pub other-epoch : ¬ (written ≡ recorded)
 
--- of bytes b, whose image is i, with a log of so many slots
+-- of bytes b, a card's, whose image is i, with a log of so many slots
 pub record Reading (Z : Shape) (c : ℕ) (b : Bytes) (i : Image) (len : ℕ) : Type 0 where
   -- the log's length is the number of used slots: those with a record that is not blank
   pub length-is : len ≡ count (λ k. not (isBlank (i .records k))) (Z .m)
@@ -56,6 +57,8 @@ pub record Reading (Z : Shape) (c : ℕ) (b : Bytes) (i : Image) (len : ℕ) : T
   pub present : (s : ℕ) → hasPayload (Z .m) i s ≡ leb 1 s && leb s (Z .m) && (eqb (verdictAt (Z .m) i (s - 1)) 1 || eqb (verdictAt (Z .m) i (s - 1)) 2)
   pub payload : (k e : ℕ) (p : Bytes) → hasPayload (Z .m) i (suc k) ≡ true → i .entries k ≡ intact e p → payloadOf Z c b (suc k) ≡ p
 
--- every image that is not refused
+-- every image that is not refused, a card's and a witness's
 pub record ReadingClaim : Type 0 where
-  pub reads : (Z : Shape) (c : ℕ) (b : Bytes) → readRefusal Z c b ≡ 0 → Reading Z c b (decodeImage Z c b) (logLength (Z .m) (decodeImage Z c b))
+  pub reads : (Z : Shape) (c : ℕ) (b : Bytes) → cardRefusal Z c b ≡ 0 → Reading Z c b (decodeImage Z c b) (logLength (Z .m) (decodeImage Z c b))
+  pub witness-reads : (Z : Shape) (c : ℕ) (b : Bytes) → witnessRefusal Z c b ≡ 0
+      → WitnessReading (Z .m) (decodeImage Z c b) (logLength (Z .m) (decodeImage Z c b))

@@ -6,7 +6,7 @@ use Rattle.slices.specs.Same.{same}
 use Rattle.record.specs.Layout.{freshEntry}
 use Rattle.record.specs.Meaning.{Entry, intact, broken}
 use Rattle.image.specs.Image.{Image}
-use Rattle.image.specs.View.{Condition, Unused, Whole, RecordLost, Faulty, Lost, conditionAt, logLength}
+use Rattle.image.specs.View.{Condition, Unused, Whole, RecordLost, Faulty, Lost, RecordOnly, conditionAt, logLength}
 
 -- an entry of spaces only
 unfoldable pub isFresh : Entry → Bool
@@ -23,6 +23,7 @@ verdictOf len k Faulty (intact e p) = 6
 verdictOf len k Faulty (broken b) = cond (eqb (suc k) len) 4 3
 verdictOf len k Unused x = cond (eqb k len && not (isFresh x)) 5 0
 verdictOf len k Lost x = 0
+verdictOf len k RecordOnly x = 0
 
 unfoldable pub verdictAt : ℕ → Image → ℕ → ℕ
 verdictAt m i k = verdictOf (logLength m i) k (conditionAt i k) (i .entries k)

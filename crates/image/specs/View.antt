@@ -7,13 +7,14 @@ use lib.ListN.{length}
 use Rattle.search.specs.Search.{lowest, all}
 use Rattle.slices.specs.Parts.{Bytes}
 use Rattle.record.specs.declared.Shape.{Shape}
+use Rattle.record.specs.Layout.{isWitness}
 use Rattle.record.specs.Meaning.{Header, proper, improper, firstIndex, Record, good, blank, bad, Entry, intact, broken}
 use Rattle.image.specs.Refusal.{refuse, _else_}
 use Rattle.image.specs.Image.{Image, imageSize, decodeImage}
 
--- a slot's condition, whatever its neighbours hold. `Lost` is refused by 6
+-- a slot's condition, whatever its neighbours hold. `Lost` is refused by 6; `RecordOnly` is a used slot of a witness (02, Seven)
 pub data Condition : Type 0 where
-  Unused Whole RecordLost Faulty Lost : Condition
+  Unused Whole RecordLost Faulty Lost RecordOnly : Condition
 
 -- in code a condition is its number
 abbrev pub conditionNumber : Condition → ℕ
@@ -22,6 +23,7 @@ conditionNumber Whole = 1
 conditionNumber RecordLost = 2
 conditionNumber Faulty = 3
 conditionNumber Lost = 4
+conditionNumber RecordOnly = 5
 
 unfoldable pub condition : Record → Entry → Condition
 condition (good e) (intact f p) = cond (eqb e f) Whole Faulty
@@ -103,6 +105,14 @@ callRefusal Z c size = namedRefusal Z c else refuse 3 (not (eqb size (imageSize 
 unfoldable pub readRefusal : Shape → ℕ → Bytes → ℕ
 readRefusal Z c b = callRefusal Z c (length b) else imageRefusal (Z .m) (decodeImage Z c b)
 
+-- of a call for cards: a replica that the shape names a witness has no card (02, Seven)
+unfoldable pub cardRefusal : Shape → ℕ → Bytes → ℕ
+cardRefusal Z c b = namedRefusal Z c else refuse 3 (isWitness Z c) else readRefusal Z c b
+
+-- of a call for witnesses: any other replica has no witness's image
+unfoldable pub witnessRefusal : Shape → ℕ → Bytes → ℕ
+witnessRefusal Z c b = namedRefusal Z c else refuse 3 (not (isWitness Z c)) else readRefusal Z c b
+
 -- what planner and recovery see of a replica
 pub record View : Type 0 where
   pub readable : Bool
@@ -119,4 +129,24 @@ viewOf present m i = record {
   length = logLength m i;
   condition = conditionAt i;
   epoch = epochAt i;
+}
+
+-- a witness stores records only (02, Seven): where it has a record, no entry is missing
+unfoldable pub conditionAs : Bool → Condition → Condition
+conditionAs false a = a
+conditionAs true Unused = Unused
+conditionAs true Whole = RecordOnly
+conditionAs true RecordLost = RecordOnly
+conditionAs true Faulty = RecordOnly
+conditionAs true Lost = Lost
+conditionAs true RecordOnly = RecordOnly
+
+-- what is seen of a replica, a witness or not
+unfoldable pub seenAs : Bool → View → View
+seenAs witness v = record {
+  readable = v .readable;
+  first = v .first;
+  length = v .length;
+  condition = λ k. conditionAs witness (v .condition k);
+  epoch = v .epoch;
 }

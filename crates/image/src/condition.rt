@@ -11,3 +11,6 @@ pub const FAULTY: u8 = 3;
 
 // Record and entry are both lost.
 pub const LOST: u8 = 4;
+
+// A used slot of a witness: its record is good, and it has no entry.
+pub const RECORD_ONLY: u8 = 5;

@@ -1,11 +1,11 @@
-// Where things stand on a card: sizes and offsets in bytes, said once for all code. Replicas and slots count from 0.
-ghost use Prim.Native.Nat.{_+_, _-_, _<_, _≤_};
+// Where things stand on a card and on a witness: sizes and offsets in bytes, said once for all code. Replicas and slots count from 0.
+ghost use Prim.Native.Nat.{suc, _+_, _-_, _<_, _≤_};
 ghost use mathlib.Core.Path.{_≡_};
-ghost use mathlib.Core.Bool.{_&&_};
+ghost use mathlib.Core.Bool.{false, _&&_};
 ghost use lib.Dec.{leb};
-ghost use Rattle.record.specs.Layout.{givesFirst, headerSize};
+ghost use Rattle.record.specs.Layout.{isWitness, givesFirst, headerSize};
 ghost use Rattle.record.specs.Meaning.{isFirst};
-ghost use Rattle.image.specs.Image.{index, imageSize, recordAt, entryAt};
+ghost use Rattle.image.specs.Image.{index, entriesSize, imageSize, recordAt, entryAt};
 ghost use Rattle.image.specs.Cluster.{imageAt};
 ghost use Rattle.image.specs.Fits.{ImageFits};
 use record::Shape;
@@ -68,6 +68,23 @@ pub const FIRST_INDEX: u64 = 1;
 
 pub const LAST_INDEX: u64 = 4294967295;
 
+// A set of replicas is a word of so many bits.
+pub const SET_BITS: usize = 32;
+
+// Whether replica `replica` (from 1) is a witness, which stores records only (document 02, Seven). No number but a replica's is one.
+pub fn is_witness(shape: Shape, replica: usize) -> bool
+    ensures { λ r. ⌜ r ≡ isWitness shape replica ⌝ }
+{
+    if replica < 1 {
+        return false;
+    }
+    if SET_BITS < replica {
+        return false;
+    }
+    let c = replica - 1;
+    (shape.witnesses >> c) & 1 == 1
+}
+
 // Whether a header of this shape gives the index of the first slot.
 pub fn gives_first(shape: Shape) -> bool
     ensures { λ r. ⌜ r ≡ givesFirst shape ⌝ }
@@ -118,12 +135,23 @@ pub fn is_first(shape: Shape, first: u64) -> bool
     true
 }
 
+// How many bytes the entries of replica `replica` (from 1) have. A witness has none.
+fn entries_size(shape: Shape, replica: usize) -> usize
+    requires { ⌜ shape .m ≤ 64 ⌝ }
+    ensures { λ r. ⌜ r ≡ entriesSize shape replica ⌝ }
+{
+    if is_witness(shape, replica) {
+        return 0;
+    }
+    ENTRY_SIZE * shape.m
+}
+
 // How many bytes the image of replica `replica` (from 1) has.
 pub fn image_size(shape: Shape, replica: usize) -> usize
     requires { ⌜ shape .m ≤ 64 ⌝ }
     ensures { λ r. ⌜ r ≡ imageSize shape replica ⌝ }
 {
-    header_size(shape) + (RECORD_SIZE + ENTRY_SIZE) * shape.m
+    header_size(shape) + RECORD_SIZE * shape.m + entries_size(shape, replica)
 }
 
 // Where the record of slot k begins in its image.
@@ -134,7 +162,7 @@ pub fn record_at(shape: Shape, k: usize) -> usize
     header_size(shape) + RECORD_SIZE * k
 }
 
-// Where the entry of slot k begins in its image.
+// Where the entry of slot k begins in its image, a card's.
 pub fn entry_at(shape: Shape, k: usize) -> usize
     requires { ⌜ (shape .m ≤ 64) × (k ≤ 64) ⌝ }
     ensures { λ r. ⌜ r ≡ entryAt shape k ⌝ }
@@ -147,7 +175,13 @@ pub fn image_at(shape: Shape, c: usize) -> usize
     requires { ⌜ (shape .m ≤ 64) × (imageAt shape c ≤ 18446744073709551615) ⌝ }
     ensures { λ r. ⌜ r ≡ imageAt shape c ⌝ }
 {
-    image_size(shape, 1) * c
+    let mut at: usize = 0;
+    let mut d: usize = 0;
+    while d < c {
+        at = at + image_size(shape, d + 1);
+        d += 1;
+    }
+    at
 }
 
 // Where the record of slot k of replica c begins in the cluster.
@@ -158,9 +192,9 @@ pub fn record_in(shape: Shape, c: usize, k: usize) -> usize
     image_at(shape, c) + record_at(shape, k)
 }
 
-// Where the entry of slot k of replica c begins in the cluster.
+// Where the entry of slot k of replica c, a card, begins in the cluster.
 pub fn entry_in(shape: Shape, c: usize, k: usize) -> usize
-    requires { ⌜ (shape .m ≤ 64) × (k < shape .m) × ImageFits shape 18446744073709551615 c ⌝ }
+    requires { ⌜ (shape .m ≤ 64) × (isWitness shape (suc c) ≡ false) × (k < shape .m) × ImageFits shape 18446744073709551615 c ⌝ }
     ensures { λ r. ⌜ r ≡ imageAt shape c + entryAt shape k ⌝ }
 {
     image_at(shape, c) + entry_at(shape, k)

@@ -13,6 +13,7 @@ ghost use Rattle.recovery.specs.NextStore.{storeOf};
 ghost use Rattle.recovery.specs.Look.{InRange, Answering, Sees, clusterIn, missingStore};
 use image::MAX_SLOTS;
 use image::condition;
+use locate::is_witness;
 use planner::Plan;
 use planner::Survey;
 use planner::action;
@@ -64,6 +65,25 @@ fn leader_store(survey: Survey, plan: Plan, leader: usize) -> NextStore
     NextStore::Nothing
 }
 
+// Whether a follower c has another entry than the leader's at its first missing slot, which is k. A witness has no entries to get.
+fn lacks_entry(
+    cluster: &[u8],
+    survey: Survey,
+    shape: Shape,
+    leader: usize,
+    c: usize,
+    k: usize,
+) -> bool
+    requires { ⌜ Answering shape leader survey (length (now cluster)) c × (k < shape .m) ⌝ }
+    ensures { λ r. ⌜ ((S : Setting) → Sees S (now (cluster .entry)) shape leader survey → k ≡ viewsIn S (now (cluster .entry)) c .length
+        → r ≡ unlike S (clusterIn S (now (cluster .entry))) c) ⌝ }
+{
+    if is_witness(shape, c + 1) {
+        return false;
+    }
+    entry_differs(cluster, shape, leader, c, k)
+}
+
 // The first missing slot of a follower c, entry before record; nothing if its log is as long as the leader's.
 fn missing_store(cluster: &[u8], survey: Survey, shape: Shape, leader: usize, c: usize) -> NextStore
     requires { ⌜ Answering shape leader survey (length (now cluster)) c ⌝ }
@@ -74,7 +94,7 @@ fn missing_store(cluster: &[u8], survey: Survey, shape: Shape, leader: usize, c:
     if survey.lengths[leader] <= k {
         return NextStore::Nothing;
     }
-    if !entry_differs(cluster, shape, leader, c, k) {
+    if !lacks_entry(cluster, survey, shape, leader, c, k) {
         let epoch = survey.epochs[leader * MAX_SLOTS + k];
         return NextStore::Record { c, k, epoch };
     }

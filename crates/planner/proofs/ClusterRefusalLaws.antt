@@ -11,85 +11,100 @@ use Rattle.search.specs.Search.{lowest}
 use Rattle.slices.specs.Parts.{Bytes}
 use Rattle.slices.proofs.SameLaws.{and-left, and-right, and-true}
 use Rattle.record.specs.declared.Shape.{Shape}
+use Rattle.record.specs.Layout.{isWitness}
 use Rattle.image.specs.Refusal.{refuse, _else_}
 use Rattle.image.specs.View.{isSize, isReplica, isSlots, isEdition, readRefusal}
 use Rattle.image.specs.Cluster.{imageAt, imagePart, firstAt}
 use Rattle.image.proofs.CallLaws.{is-slots, slots-low, slots-high, is-size, size-low, size-high, is-replica, is-edition, edition-from, edition-to}
-use Rattle.planner.specs.Setting.{settingOf, has}
-use Rattle.planner.specs.Rules.{sameFirsts}
+use Rattle.search.specs.Sets.{has}
+use Rattle.planner.specs.Setting.{settingOf}
+use Rattle.planner.specs.Rules.{mayLead, sameFirsts}
 use Rattle.planner.specs.Plan.{viewsIn, shapeRefusal, clusterRefusal, lentRefusal, planRefusal}
-use Rattle.planner.specs.ClusterRefusalClaim.{tried, rank, FirstApplying, InSet, ClusterRefused, PlanRefused, slots, replicas, edition, size, stray, no-leader, away, unreadable, other-first, cluster, plan, table}
+use Rattle.planner.specs.ClusterRefusalClaim.{tried, rank, FirstApplying, InSet, ClusterRefused, PlanRefused, slots, replicas, edition, size, stray, stray-witness, no-leader, away, unreadable, leader-witness, other-first, cluster, plan, table}
 use Rattle.planner.proofs.AskingLaws.{own-refusal}
+use Rattle.planner.proofs.CallLaws.{lead-reads, lead-card}
 use Rattle.planner.proofs.FirstLaws.{same-off, same-other, view-first, first-one}
 use Rattle.planner.proofs.BitLaws.{high-one, no-high-one}
 
 -- ---- tests tried in turn
 
--- the refusal of a cluster by what its six tests say
-abbrev chain : Bool → Bool → Bool → Bool → Bool → Bool → ℕ
-chain s z l w i f = (refuse 1 (not s) else refuse 2 (not z) else refuse 3 (not l) else refuse 11 (not w)) else refuse 12 (not i) else refuse 21 (not f)
+-- the refusal of a cluster by what its seven tests say
+abbrev chain : Bool → Bool → Bool → Bool → Bool → Bool → Bool → ℕ
+chain s z l w v i f = (refuse 1 (not s) else refuse 2 (not z) else refuse 3 (not l) else refuse 11 (not w) else refuse 22 (not v)) else refuse 12 (not i) else refuse 21 (not f)
 
 -- a refusal, by q or a number before it
 abbrev UpTo : ℕ → ℕ → Type 0
 UpTo q r = (1 ≤ r) × (rank r ≤ rank q)
 
-by-slots : (s z l w i f : Bool) → s ≡ false → UpTo 1 (chain s z l w i f)
+by-slots : (s z l w v i f : Bool) → s ≡ false → UpTo 1 (chain s z l w v i f)
 unfolding refuse _else_
-by-slots true z l w i f e = absurd (true≢false e)
-by-slots false z l w i f e = (omega arith, omega arith)
+by-slots true z l w v i f e = absurd (true≢false e)
+by-slots false z l w v i f e = (omega arith, omega arith)
 
-by-replicas : (s z l w i f : Bool) → z ≡ false → UpTo 2 (chain s z l w i f)
+by-replicas : (s z l w v i f : Bool) → z ≡ false → UpTo 2 (chain s z l w v i f)
 unfolding refuse _else_ rank tried lowest
-by-replicas false z l w i f e = (omega arith, omega arith)
-by-replicas true true l w i f e = absurd (true≢false e)
-by-replicas true false l w i f e = (omega arith, omega arith)
+by-replicas false z l w v i f e = (omega arith, omega arith)
+by-replicas true true l w v i f e = absurd (true≢false e)
+by-replicas true false l w v i f e = (omega arith, omega arith)
 
-by-size : (s z l w i f : Bool) → l ≡ false → UpTo 3 (chain s z l w i f)
+by-size : (s z l w v i f : Bool) → l ≡ false → UpTo 3 (chain s z l w v i f)
 unfolding refuse _else_ rank tried lowest
-by-size false z l w i f e = (omega arith, omega arith)
-by-size true false l w i f e = (omega arith, omega arith)
-by-size true true true w i f e = absurd (true≢false e)
-by-size true true false w i f e = (omega arith, omega arith)
+by-size false z l w v i f e = (omega arith, omega arith)
+by-size true false l w v i f e = (omega arith, omega arith)
+by-size true true true w v i f e = absurd (true≢false e)
+by-size true true false w v i f e = (omega arith, omega arith)
 
-by-set : (s z l w i f : Bool) → w ≡ false → UpTo 11 (chain s z l w i f)
+by-set : (s z l w v i f : Bool) → w ≡ false → UpTo 11 (chain s z l w v i f)
 unfolding refuse _else_ rank tried lowest
-by-set false z l w i f e = (omega arith, omega arith)
-by-set true false l w i f e = (omega arith, omega arith)
-by-set true true false w i f e = (omega arith, omega arith)
-by-set true true true true i f e = absurd (true≢false e)
-by-set true true true false i f e = (omega arith, omega arith)
+by-set false z l w v i f e = (omega arith, omega arith)
+by-set true false l w v i f e = (omega arith, omega arith)
+by-set true true false w v i f e = (omega arith, omega arith)
+by-set true true true true v i f e = absurd (true≢false e)
+by-set true true true false v i f e = (omega arith, omega arith)
 
-by-leader : (s z l w i f : Bool) → (s ≡ true → z ≡ true → l ≡ true → i ≡ false) → UpTo 12 (chain s z l w i f)
+by-witnesses : (s z l w v i f : Bool) → v ≡ false → UpTo 22 (chain s z l w v i f)
 unfolding refuse _else_ rank tried lowest
-by-leader false z l w i f h = (omega arith, omega arith)
-by-leader true false l w i f h = (omega arith, omega arith)
-by-leader true true false w i f h = (omega arith, omega arith)
-by-leader true true true false i f h = (omega arith, omega arith)
-by-leader true true true true true f h = absurd (true≢false (h refl refl refl))
-by-leader true true true true false f h = (omega arith, omega arith)
+by-witnesses false z l w v i f e = (omega arith, omega arith)
+by-witnesses true false l w v i f e = (omega arith, omega arith)
+by-witnesses true true false w v i f e = (omega arith, omega arith)
+by-witnesses true true true false v i f e = (omega arith, omega arith)
+by-witnesses true true true true true i f e = absurd (true≢false e)
+by-witnesses true true true true false i f e = (omega arith, omega arith)
 
-by-first : (s z l w i f : Bool) → (s ≡ true → z ≡ true → l ≡ true → f ≡ false) → UpTo 21 (chain s z l w i f)
+by-leader : (s z l w v i f : Bool) → (s ≡ true → z ≡ true → l ≡ true → i ≡ false) → UpTo 12 (chain s z l w v i f)
 unfolding refuse _else_ rank tried lowest
-by-first false z l w i f h = (omega arith, omega arith)
-by-first true false l w i f h = (omega arith, omega arith)
-by-first true true false w i f h = (omega arith, omega arith)
-by-first true true true false i f h = (omega arith, omega arith)
-by-first true true true true false f h = (omega arith, omega arith)
-by-first true true true true true true h = absurd (true≢false (h refl refl refl))
-by-first true true true true true false h = (omega arith, omega arith)
+by-leader false z l w v i f h = (omega arith, omega arith)
+by-leader true false l w v i f h = (omega arith, omega arith)
+by-leader true true false w v i f h = (omega arith, omega arith)
+by-leader true true true false v i f h = (omega arith, omega arith)
+by-leader true true true true false i f h = (omega arith, omega arith)
+by-leader true true true true true true f h = absurd (true≢false (h refl refl refl))
+by-leader true true true true true false f h = (omega arith, omega arith)
+
+by-first : (s z l w v i f : Bool) → (s ≡ true → z ≡ true → l ≡ true → f ≡ false) → UpTo 21 (chain s z l w v i f)
+unfolding refuse _else_ rank tried lowest
+by-first false z l w v i f h = (omega arith, omega arith)
+by-first true false l w v i f h = (omega arith, omega arith)
+by-first true true false w v i f h = (omega arith, omega arith)
+by-first true true true false v i f h = (omega arith, omega arith)
+by-first true true true true false i f h = (omega arith, omega arith)
+by-first true true true true true false f h = (omega arith, omega arith)
+by-first true true true true true true true h = absurd (true≢false (h refl refl refl))
+by-first true true true true true true false h = (omega arith, omega arith)
 
 -- what is refused fails the test of its number
-shown : (P : ℕ → Type 0) (s z l w i f : Bool) → (s ≡ false → P 1) → (z ≡ false → P 2) → (l ≡ false → P 3) → (w ≡ false → P 11)
+shown : (P : ℕ → Type 0) (s z l w v i f : Bool) → (s ≡ false → P 1) → (z ≡ false → P 2) → (l ≡ false → P 3) → (w ≡ false → P 11) → (v ≡ false → P 22)
     → (s ≡ true → z ≡ true → l ≡ true → i ≡ false → P 12) → (s ≡ true → z ≡ true → l ≡ true → f ≡ false → P 21)
-    → ¬ (chain s z l w i f ≡ 0) → P (chain s z l w i f)
+    → ¬ (chain s z l w v i f ≡ 0) → P (chain s z l w v i f)
 unfolding refuse _else_
-shown P false z l w i f p q r t u v h = p refl
-shown P true false l w i f p q r t u v h = q refl
-shown P true true false w i f p q r t u v h = r refl
-shown P true true true false i f p q r t u v h = t refl
-shown P true true true true false f p q r t u v h = u refl refl refl refl
-shown P true true true true true false p q r t u v h = v refl refl refl refl
-shown P true true true true true true p q r t u v h = absurd (h refl)
+shown P false z l w v i f p q r t o u x h = p refl
+shown P true false l w v i f p q r t o u x h = q refl
+shown P true true false w v i f p q r t o u x h = r refl
+shown P true true true false v i f p q r t o u x h = t refl
+shown P true true true true false i f p q r t o u x h = o refl
+shown P true true true true true false f p q r t o u x h = u refl refl refl refl
+shown P true true true true true true false p q r t o u x h = x refl refl refl refl
+shown P true true true true true true true p q r t o u x h = absurd (h refl)
 
 -- no refusal that applies stands before the one that is answered
 first-of : {P : ℕ → Type 0} {r : ℕ} → (¬ (r ≡ 0) → P r) → ((q : ℕ) → P q → UpTo q r) → FirstApplying P r
@@ -113,7 +128,7 @@ unfolding isReplica
 within n c e = (leb-true 1 c (and-left (leb 1 c) (leb c n) e), leb-true c n (and-right (leb 1 c) (leb c n) e))
 
 module _ (Z : Shape) (leading present : ℕ) (b : Bytes) where
-  -- the six tests
+  -- the seven tests
   abbrev counts : Bool
   counts = isSlots (Z .m)
 
@@ -126,8 +141,14 @@ module _ (Z : Shape) (leading present : ℕ) (b : Bytes) where
   abbrev bits : Bool
   bits = ltb present (2 ^ Z .n)
 
+  abbrev boxes : Bool
+  boxes = ltb (Z .witnesses) (2 ^ Z .n)
+
+  abbrev may : Bool
+  may = mayLead (settingOf Z leading present) (viewsIn (settingOf Z leading present) b)
+
   abbrev leads : Bool
-  leads = isReplica (Z .n) leading && viewsIn (settingOf Z leading present) b (pred leading) .readable
+  leads = isReplica (Z .n) leading && may
 
   abbrev begins : Bool
   begins = sameFirsts (settingOf Z leading present) (viewsIn (settingOf Z leading present) b)
@@ -161,21 +182,25 @@ module _ (Z : Shape) (leading present : ℕ) (b : Bytes) where
         (each (pred leading) k)
 
     led : leads ≡ true → has present (pred leading) && unrefused ≡ true
+    unfolding settingOf
     led e =
-        sym (own (within (Z .n) leading (and-left (isReplica (Z .n) leading) (viewsIn (settingOf Z leading present) b (pred leading) .readable) e)))
-        ∙ and-right (isReplica (Z .n) leading) (viewsIn (settingOf Z leading present) b (pred leading) .readable) e
+        sym (own (within (Z .n) leading (and-left (isReplica (Z .n) leading) may e)))
+        ∙ lead-reads (settingOf Z leading present) (viewsIn (settingOf Z leading present) b) (and-right (isReplica (Z .n) leading) may e)
 
     leads-not : leads ≡ false → ClusterRefused Z leading present b 12
-    unfolding has
-    leads-not e = go (isReplica (Z .n) leading) (has present (pred leading)) unrefused refl refl refl
+    unfolding has mayLead settingOf isWitness
+    leads-not e = go (isReplica (Z .n) leading) (has present (pred leading)) unrefused (has (Z .witnesses) (pred leading)) refl refl refl refl
       where
-        go : (x y u : Bool) → isReplica (Z .n) leading ≡ x → has present (pred leading) ≡ y → unrefused ≡ u → ClusterRefused Z leading present b 12
-        go false y u p q r = no-leader (λ h. so-not p (is-replica (Z .n) leading (h .0) (h .1)))
-        go true false u p q r = away (λ h. so-not q (eq-eqb (present / 2 ^ pred leading % 2) 1 h))
-        go true true false p q r = unreadable (λ h. so-not r (eq-eqb (readRefusal Z leading (imagePart Z b (pred leading))) 0 h))
-        go true true true p q r =
-            absurd (so-not e (and-true (isReplica (Z .n) leading) (viewsIn (settingOf Z leading present) b (pred leading) .readable) p
-            (own (within (Z .n) leading p) ∙ and-true (has present (pred leading)) unrefused q r)))
+        go : (x y u v : Bool) → isReplica (Z .n) leading ≡ x → has present (pred leading) ≡ y → unrefused ≡ u → has (Z .witnesses) (pred leading) ≡ v
+            → ClusterRefused Z leading present b 12
+        go false y u v p q r o = no-leader (λ h. so-not p (is-replica (Z .n) leading (h .0) (h .1)))
+        go true false u v p q r o = away (λ h. so-not q (eq-eqb (present / 2 ^ pred leading % 2) 1 h))
+        go true true false v p q r o = unreadable (λ h. so-not r (eq-eqb (readRefusal Z leading (imagePart Z b (pred leading))) 0 h))
+        go true true true true p q r o = leader-witness (eqb-true (Z .witnesses / 2 ^ pred leading % 2) 1 o)
+        go true true true false p q r o =
+            absurd (so-not e (and-true (isReplica (Z .n) leading) may p
+            (and-true (viewsIn (settingOf Z leading present) b (pred leading) .readable) (not (has (Z .witnesses) (pred leading)))
+            (own (within (Z .n) leading p) ∙ and-true (has present (pred leading)) unrefused q r) (ap not o))))
 
     begins-not : begins ≡ false → ClusterRefused Z leading present b 21
     unfolding has settingOf
@@ -196,36 +221,42 @@ module _ (Z : Shape) (leading present : ℕ) (b : Bytes) where
   applies : ¬ (clusterRefusal Z leading present b ≡ 0) → ClusterRefused Z leading present b (clusterRefusal Z leading present b)
   unfolding clusterRefusal shapeRefusal
   applies h =
-      shown (ClusterRefused Z leading present b) counts names fits bits leads begins
+      shown (ClusterRefused Z leading present b) counts names fits bits boxes leads begins
       (λ e. slots (λ p. so-not e (is-slots (Z .m) (p .0) (p .1))))
       names-not
       (λ e. size (λ p. so-not e (eq-eqb (length b) (imageAt Z (Z .n)) p)))
       (λ e. let i = high-one (Z .n) present (λ p. so-not e (lt-ltb present (2 ^ Z .n) p)) in stray (i .at) (omega (arith, i .from)) (i .is))
+      (λ e. let i = high-one (Z .n) (Z .witnesses) (λ p. so-not e (lt-ltb (Z .witnesses) (2 ^ Z .n) p)) in stray-witness (i .at) (omega (arith, i .from)) (i .is))
       leads-not
       begins-not
       h
 
   at-most : (q : ℕ) → ClusterRefused Z leading present b q → UpTo q (clusterRefusal Z leading present b)
-  unfolding clusterRefusal shapeRefusal has
-  at-most q (slots h) = by-slots counts names fits bits leads begins (not-so counts (λ e. h (slots-low (Z .m) e, slots-high (Z .m) e)))
+  unfolding clusterRefusal shapeRefusal has settingOf isWitness
+  at-most q (slots h) = by-slots counts names fits bits boxes leads begins (not-so counts (λ e. h (slots-low (Z .m) e, slots-high (Z .m) e)))
   at-most q (replicas h) =
-      by-replicas counts names fits bits leads begins
+      by-replicas counts names fits bits boxes leads begins
       (not-so names (λ e. let s = and-left (isSize (Z .n)) (isEdition (Z .edition)) e in h (omega (arith, size-low (Z .n) s), omega (arith, size-high (Z .n) s))))
   at-most q (edition h) =
-      by-replicas counts names fits bits leads begins
+      by-replicas counts names fits bits boxes leads begins
       (not-so names (λ e. let s = and-right (isSize (Z .n)) (isEdition (Z .edition)) e in h (omega (arith, edition-from (Z .edition) s), omega (arith, edition-to (Z .edition) s))))
-  at-most q (size h) = by-size counts names fits bits leads begins (not-so fits (λ e. h (eqb-true (length b) (imageAt Z (Z .n)) e)))
-  at-most q (stray c l h) = by-set counts names fits bits leads begins (not-so bits (λ e. no-high-one (Z .n) present c (ltb-true present (2 ^ Z .n) e) (omega arith) h))
+  at-most q (size h) = by-size counts names fits bits boxes leads begins (not-so fits (λ e. h (eqb-true (length b) (imageAt Z (Z .n)) e)))
+  at-most q (stray c l h) = by-set counts names fits bits boxes leads begins (not-so bits (λ e. no-high-one (Z .n) present c (ltb-true present (2 ^ Z .n) e) (omega arith) h))
+  at-most q (stray-witness c l h) =
+      by-witnesses counts names fits bits boxes leads begins (not-so boxes (λ e. no-high-one (Z .n) (Z .witnesses) c (ltb-true (Z .witnesses) (2 ^ Z .n) e) (omega arith) h))
   at-most q (no-leader h) =
-      by-leader counts names fits bits leads begins
-      (λ s z l. not-so leads (λ e. h (within (Z .n) leading (and-left (isReplica (Z .n) leading) (viewsIn (settingOf Z leading present) b (pred leading) .readable) e))))
+      by-leader counts names fits bits boxes leads begins
+      (λ s z l. not-so leads (λ e. h (within (Z .n) leading (and-left (isReplica (Z .n) leading) may e))))
   at-most q (away h) =
-      by-leader counts names fits bits leads begins
+      by-leader counts names fits bits boxes leads begins
       (λ s z l. not-so leads (λ e. h (eqb-true (present / 2 ^ pred leading % 2) 1 (and-left (has present (pred leading)) unrefused (led s z l e)))))
   at-most q (unreadable h) =
-      by-leader counts names fits bits leads begins
+      by-leader counts names fits bits boxes leads begins
       (λ s z l. not-so leads (λ e. h (eqb-true (readRefusal Z leading (imagePart Z b (pred leading))) 0 (and-right (has present (pred leading)) unrefused (led s z l e)))))
-  at-most q (other-first c h i r d) = by-first counts names fits bits leads begins (λ s z l. begins-off s z l c (omega (arith, h)) i (omega (arith, r)) d)
+  at-most q (leader-witness h) =
+      by-leader counts names fits bits boxes leads begins
+      (λ s z l. not-so leads (λ e. so-not (lead-card (settingOf Z leading present) (viewsIn (settingOf Z leading present) b) (and-right (isReplica (Z .n) leading) may e)) (eq-eqb (Z .witnesses / 2 ^ pred leading % 2) 1 h)))
+  at-most q (other-first c h i r d) = by-first counts names fits bits boxes leads begins (λ s z l. begins-off s z l c (omega (arith, h)) i (omega (arith, r)) d)
 
   pub cluster-first : FirstApplying (ClusterRefused Z leading present b) (clusterRefusal Z leading present b)
   cluster-first = first-of applies at-most
@@ -238,9 +269,11 @@ module _ (Z : Shape) (leading present : ℕ) (b : Bytes) where
   ranked q (edition h) = omega arith
   ranked q (size h) = omega arith
   ranked q (stray c l h) = omega arith
+  ranked q (stray-witness c l h) = omega arith
   ranked q (no-leader h) = omega arith
   ranked q (away h) = omega arith
   ranked q (unreadable h) = omega arith
+  ranked q (leader-witness h) = omega arith
   ranked q (other-first c h i r d) = omega arith
 
   -- in edition 1 the logs begin at one index
@@ -257,9 +290,11 @@ module _ (Z : Shape) (leading present : ℕ) (b : Bytes) where
       go q e (edition h) = omega arith
       go q e (size h) = omega arith
       go q e (stray c l h) = omega arith
+      go q e (stray-witness c l h) = omega arith
       go q e (no-leader h) = omega arith
       go q e (away h) = omega arith
       go q e (unreadable h) = omega arith
+      go q e (leader-witness h) = omega arith
       go q e (other-first c h i r d) = d (at-one c ∙ sym (at-one (pred leading)))
 
 -- ---- 13, after the others

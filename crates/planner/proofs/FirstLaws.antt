@@ -17,9 +17,10 @@ use Rattle.record.proofs.LayoutLaws.{gives-other}
 use Rattle.record.proofs.HeaderLaws.{read-first-one}
 use Rattle.image.specs.Refusal.{refuse}
 use Rattle.image.specs.Image.{firstIn, decodeUnder, decodeImage}
-use Rattle.image.specs.View.{View, viewOf}
+use Rattle.image.specs.View.{View, viewOf, seenAs}
 use Rattle.image.specs.Cluster.{firstAt, decode}
-use Rattle.planner.specs.Setting.{Setting, has, settingOf, viewsOf}
+use Rattle.search.specs.Sets.{has}
+use Rattle.planner.specs.Setting.{Setting, settingOf, viewsOf}
 use Rattle.planner.specs.Rules.{sameFirsts}
 use Rattle.planner.specs.Plan.{viewsIn}
 use Rattle.planner.specs.Survey.{Surveyed, sameNumbers}
@@ -96,7 +97,7 @@ module _ (S : Setting) (W : ℕ → View) where
 -- ---- from a cluster's bytes
 
 pub view-first : (S : Setting) (b : Bytes) (c : ℕ) → viewsIn S b c .first ≡ firstAt (S .shape) b c
-unfolding viewsIn viewsOf viewOf decode decodeImage decodeUnder firstAt firstIn
+unfolding viewsIn viewsOf seenAs viewOf decode decodeImage decodeUnder firstAt firstIn
 view-first S b c = refl
 
 pub first-one : (S : Setting) (b : Bytes) (c : ℕ) → S .shape .edition ≡ 1 → viewsIn S b c .first ≡ 1

@@ -17,3 +17,4 @@ pub mod FrontLaws
 pub mod OutcomeLaws
 pub mod BitLaws
 pub mod ClusterRefusalLaws
+pub mod WitnessLaws

@@ -16,8 +16,9 @@ use Rattle.image.specs.Refusal.{unlessRefused}
 use Rattle.image.specs.View.{View}
 use Rattle.image.specs.Answers.{value}
 use Rattle.image.proofs.CallLaws.{size-high}
-use Rattle.planner.specs.Setting.{Setting, settingOf, has}
-use Rattle.planner.specs.Rules.{Refused, Waiting, Ready, answer, end, firstWaiting, sameFirsts}
+use Rattle.search.specs.Sets.{has}
+use Rattle.planner.specs.Setting.{Setting, settingOf}
+use Rattle.planner.specs.Rules.{Refused, Waiting, Ready, answer, end, firstWaiting, mayLead, sameFirsts}
 use Rattle.planner.specs.Plan.{viewsIn, planBytes, clusterRefusal, lentRefusal, planRefusal}
 use Rattle.planner.specs.declared.PlanAnswer.{PlanAnswer}
 use Rattle.planner.specs.declared.PlanAnswer.the-variants as plan
@@ -27,7 +28,7 @@ use Rattle.planner.specs.Answers.{planNumbers, answerNumbers, planNumber
 use Rattle.planner.specs.Tabulated.{answerAt, frontRows, numberRow, Outcome}
 use Rattle.planner.proofs.RowLaws.{lengths-fit, rows-are}
 use Rattle.planner.proofs.ShapeLaws.{shaped-size}
-use Rattle.planner.proofs.CallLaws.{cluster-shaped}
+use Rattle.planner.proofs.CallLaws.{cluster-shaped, lead-intro}
 use Rattle.planner.proofs.LentLaws.{lent-rows, lent-zero}
 use Rattle.planner.proofs.FrontLaws.{front-none, front-all}
 
@@ -39,7 +40,7 @@ pub answer-ready : (e w : ℕ) → e ≤ w → value (0, e) ≡ answerAt e w
 unfolding answerAt
 answer-ready e w h = rw (le-ltb w e h) refl
 
-answer-found : (S : Setting) (W : ℕ → View) {final waiting : ℕ} → W (S .leader) .readable ≡ true → sameFirsts S W ≡ true → final ≡ end S W → waiting ≡ firstWaiting S W
+answer-found : (S : Setting) (W : ℕ → View) {final waiting : ℕ} → mayLead S W ≡ true → sameFirsts S W ≡ true → final ≡ end S W → waiting ≡ firstWaiting S W
     → answerAt final waiting ≡ answerNumbers (answer S W)
 unfolding answerAt answerNumbers answer
 answer-found S W ok one f w = rw (ok, one, f, w) (go (ltb (firstWaiting S W) (end S W)))
@@ -70,7 +71,7 @@ module _ (S : Setting) (W : ℕ → View) {n leader readable : ℕ} {firsts leng
   unfolding planNumbered rowsOf
   planned-outcome z p e t = record {
     sized = t .0;
-    answer-is = e ∙ answer-found S W (rw (o .leader-is) (o .leader-reads)) (o .same-firsts) (p .end-is) (p .waiting-is) ∙ rw (eq-eqb _ _ z) refl;
+    answer-is = e ∙ answer-found S W (lead-intro S W (rw (o .leader-is) (o .leader-reads)) (rw (o .leader-is) (o .leader-card))) (o .same-firsts) (p .end-is) (p .waiting-is) ∙ rw (eq-eqb _ _ z) refl;
     count-is = rw (eq-eqb _ _ z) (sym (o .n-is));
     rows-are = λ _. rw (o .n-is) (t .1 ∙ rows-are n (S .shape .m) readable W firsts lengths conditions epochs (o .surveyed) (λ c b r. o .logs-fit c));
   }

@@ -12,7 +12,7 @@ use borrow.Author.Tests.{eq-eqb, ne-eqb, lt-ltb, le-ltb}
 use Rattle.search.specs.Search.{lowest, listed}
 use Rattle.search.proofs.SearchLaws.{lowest-passes, lowest-cong}
 use Rattle.search.proofs.ListedLaws.{length-listed, getD-listed, listed-ext, listed-cong}
-use Rattle.image.specs.View.{Condition, Unused, Whole, RecordLost, Faulty, Lost, View}
+use Rattle.image.specs.View.{Condition, Unused, Whole, RecordLost, Faulty, Lost, RecordOnly, View}
 use Rattle.image.specs.View.{conditionNumber}
 use Rattle.planner.specs.Setting.{Setting}
 use Rattle.planner.specs.Rules.{isTruncate, isWait, Rule, Keep, Fetch, Truncate, Wait, rule, donor, end, firstWaiting}
@@ -42,6 +42,7 @@ wait-byte Keep Whole d = refl
 wait-byte Keep RecordLost d = refl
 wait-byte Keep Faulty d = refl
 wait-byte Keep Lost d = refl
+wait-byte Keep RecordOnly d = refl
 wait-byte Fetch a d = ne-eqb (10 + suc d) 3 (λ e. omega arith)
 wait-byte Truncate a d = refl
 wait-byte Wait a d = refl
@@ -87,6 +88,7 @@ number-from Whole = refl
 number-from RecordLost = refl
 number-from Faulty = refl
 number-from Lost = refl
+number-from RecordOnly = refl
 
 pub survey-end-le : (n leader l readable : ℕ) (conditions epochs : List ℕ) {final : ℕ} → final ≡ end (surveySetting n leader) (surveyViews l readable conditions epochs) → final ≤ l
 unfolding surveySetting surveyViews

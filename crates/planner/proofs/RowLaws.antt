@@ -12,7 +12,7 @@ use borrow.Author.Tests.{eqb-false}
 use Rattle.search.specs.Search.{listed, oneIf}
 use Rattle.search.proofs.ListedLaws.{listed-cong}
 use Rattle.image.specs.View.{View}
-use Rattle.planner.specs.Setting.{has}
+use Rattle.search.specs.Sets.{has}
 use Rattle.planner.specs.Plan.{rowLength, rowEpoch}
 use Rattle.planner.specs.Survey.{Surveyed}
 use Rattle.planner.specs.Answers.{rowOf}

@@ -144,7 +144,8 @@ kept-high zero h = absurd (omega arith)
 kept-high (suc zero) h = absurd (omega arith)
 kept-high (suc (suc zero)) h = absurd (omega arith)
 kept-high (suc (suc (suc zero))) h = refl
-kept-high (suc (suc (suc (suc x)))) h = refl
+kept-high (suc (suc (suc (suc zero)))) h = refl
+kept-high (suc (suc (suc (suc (suc x))))) h = refl
 
 -- ---- marked from the end on
 

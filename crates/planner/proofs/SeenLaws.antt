@@ -1,11 +1,12 @@
 -- The survey of a cluster, replica by replica.
 use Prim.Native.Nat.{ℕ, suc, _+_, _*_, _-_, _<_, _≤_}
 use mathlib.Core.Path.{_≡_, refl, sym, _∙_, ap, subst}
-use mathlib.Core.Bool.{true, false}
+use mathlib.Core.Bool.{Bool, true, false, cond, not, _&&_}
 use mathlib.Core.List.{List}
 use native.Mathlib.Omega.{arith}
 use native.Mathlib.Decide.{ℕ-discrete}
 use native.Mathlib.Numerals.{add-one}
+use lib.Dec.{eqb}
 use lib.ListN.{length, getD, set, take, drop, length-set}
 use lib.Seq.{getD-set-same, getD-set-other}
 use borrow.Author.Tests.{eq-eqb, ne-eqb}
@@ -14,17 +15,19 @@ use Rattle.slices.proofs.PartLaws.{length-part}
 use Rattle.slices.proofs.SpliceLaws.{part-lent}
 use Rattle.slices.proofs.SameLaws.{and-off, clash}
 use Rattle.record.specs.declared.Shape.{Shape}
+use Rattle.record.specs.Layout.{isWitness}
 use Rattle.image.specs.Image.{Image, imageSize, decodeImage}
-use Rattle.image.specs.View.{View, viewOf, imageRefusal, conditionAt, epochAt}
+use Rattle.image.specs.View.{View, viewOf, conditionAs, seenAs, imageRefusal, Condition, Unused, Whole, RecordLost, Faulty, Lost, RecordOnly, conditionAt, epochAt}
 use Rattle.image.specs.View.{conditionNumber}
 use Rattle.image.specs.Seen.{Seen, conditionsOf}
 use Rattle.image.specs.Cluster.{imageAt, imagePart, decode}
 use Rattle.image.proofs.ClusterLaws.{image-fits}
 use Rattle.image.proofs.ScannedLaws.{taken-at}
-use Rattle.planner.specs.Setting.{has, settingOf, viewsOf}
+use Rattle.search.specs.Sets.{has}
+use Rattle.planner.specs.Setting.{settingOf, viewsOf}
 use Rattle.planner.specs.Plan.{viewsIn}
 use Rattle.planner.specs.Sets.{inserted, setOf}
-use Rattle.planner.specs.Survey.{Surveyed, Copied}
+use Rattle.planner.specs.Survey.{Surveyed, Copied, numberAs}
 use Rattle.planner.proofs.SetLaws.{set-none, set-in, set-out, has-set}
 
 -- ---- where an image stands in the cluster
@@ -54,21 +57,22 @@ module _ (Z : Shape) (c : ℕ) (b : Bytes) (h : c < Z .n) (len : length b ≡ im
 
 -- ---- copied slots
 
-pub copied-none : (c : ℕ) (old seen : List ℕ) → Copied c old seen old 0
+pub copied-none : (c : ℕ) (old : List ℕ) (seen : ℕ → ℕ) → Copied c old seen old 0
 copied-none c old seen = record { same-size = refl; here = λ j h. absurd (omega arith); below = λ i h. refl }
 
-pub copied-more : {c : ℕ} {old seen new : List ℕ} (k : ℕ) → Copied c old seen new k → c * 64 + k < length new → Copied c old seen (set new (c * 64 + k) (getD seen k 0)) (k + 1)
-copied-more {c} {old} {seen} {new} k p h = record {
-  same-size = length-set new (c * 64 + k) (getD seen k 0) ∙ p .same-size;
+pub copied-more : {c : ℕ} {old : List ℕ} {seen : ℕ → ℕ} {new : List ℕ} {x : ℕ} (k : ℕ) → Copied c old seen new k → c * 64 + k < length new → x ≡ seen k
+    → Copied c old seen (set new (c * 64 + k) x) (k + 1)
+copied-more {c} {old} {seen} {new} {x} k p h e = record {
+  same-size = length-set new (c * 64 + k) x ∙ p .same-size;
   here = λ j l. go j (ℕ-discrete j k) l;
-  below = λ i l. getD-set-other new (c * 64 + k) i (getD seen k 0) 0 (λ q. omega arith) ∙ p .below i l;
+  below = λ i l. getD-set-other new (c * 64 + k) i x 0 (λ q. omega arith) ∙ p .below i l;
 }
   where
-    go : (j : ℕ) → Dec (j ≡ k) → j < k + 1 → getD (set new (c * 64 + k) (getD seen k 0)) (c * 64 + j) 0 ≡ getD seen j 0
-    go j (yes q) l = rw q (getD-set-same new (c * 64 + k) (getD seen k 0) 0 h)
-    go j (no q) l = getD-set-other new (c * 64 + k) (c * 64 + j) (getD seen k 0) 0 (λ z. q (omega arith)) ∙ p .here j (omega arith)
+    go : (j : ℕ) → Dec (j ≡ k) → j < k + 1 → getD (set new (c * 64 + k) x) (c * 64 + j) 0 ≡ seen j
+    go j (yes q) l = rw q (getD-set-same new (c * 64 + k) x 0 h ∙ e)
+    go j (no q) l = getD-set-other new (c * 64 + k) (c * 64 + j) x 0 (λ z. q (omega arith)) ∙ p .here j (omega arith)
 
-pub copied-all : {c : ℕ} {old seen new : List ℕ} (k : ℕ) → Copied c old seen new k → 64 ≤ k → Copied c old seen new 64
+pub copied-all : {c : ℕ} {old : List ℕ} {seen : ℕ → ℕ} {new : List ℕ} (k : ℕ) → Copied c old seen new k → 64 ≤ k → Copied c old seen new 64
 copied-all k p h = record { same-size = p .same-size; here = λ j l. p .here j (omega arith); below = p .below }
 
 -- ---- the replicas below c are surveyed
@@ -128,9 +132,9 @@ partly-skip {m} {W} {readable} {firsts} {lengths} {conditions} {epochs} c p off 
         go (yes q) = absurd (clash (rw q at r) off)
         go (no q) = omega arith
 
-pub partly-more : {m : ℕ} {W : ℕ → View} {readable : ℕ} {firsts lengths conditions epochs seen-conditions seen-epochs conditions′ epochs′ : List ℕ} (c first len : ℕ)
+pub partly-more : {m : ℕ} {W : ℕ → View} {readable : ℕ} {firsts lengths conditions epochs : List ℕ} {seen-conditions seen-epochs : ℕ → ℕ} {conditions′ epochs′ : List ℕ} (c first len : ℕ)
     → Partly m W readable firsts lengths conditions epochs c → c < 7 → m ≤ 64 → W c .readable ≡ true → first ≡ W c .first → len ≡ W c .length
-    → ((k : ℕ) → k < m → getD seen-conditions k 0 ≡ conditionNumber (W c .condition k)) → ((k : ℕ) → k < m → getD seen-epochs k 0 ≡ W c .epoch k)
+    → ((k : ℕ) → k < m → seen-conditions k ≡ conditionNumber (W c .condition k)) → ((k : ℕ) → k < m → seen-epochs k ≡ W c .epoch k)
     → Copied c conditions seen-conditions conditions′ 64 → Copied c epochs seen-epochs epochs′ 64
     → Partly m W (inserted readable c) (set firsts c first) (set lengths c len) conditions′ epochs′ (c + 1)
 partly-more {m} {W} {readable} {firsts} {lengths} {conditions} {epochs} {seen-conditions} {seen-epochs} {conditions′} {epochs′} c first len p c7 m64 on fe le ce ee cc′ ec′ = record {
@@ -163,24 +167,54 @@ partly-more {m} {W} {readable} {firsts} {lengths} {conditions} {epochs} {seen-co
 
 -- ---- what is seen of replica c
 
+number-as : (w : Bool) (a : Condition) → numberAs w (conditionNumber a) ≡ conditionNumber (conditionAs w a)
+unfolding numberAs conditionAs
+number-as false a = refl
+number-as true Unused = refl
+number-as true Whole = refl
+number-as true RecordLost = refl
+number-as true Faulty = refl
+number-as true Lost = refl
+number-as true RecordOnly = refl
+
+-- how the code tells
+pub number-card : {w : Bool} (x : ℕ) → w ≡ false → x ≡ numberAs w x
+unfolding numberAs
+number-card x e = rw e refl
+
+pub number-unused : (w : Bool) (x : ℕ) → x ≡ 0 → x ≡ numberAs w x
+unfolding numberAs
+number-unused w x e = rw (eq-eqb x 0 e, and-off w) refl
+
+pub number-lost : (w : Bool) (x : ℕ) → x ≡ 4 → x ≡ numberAs w x
+unfolding numberAs
+number-lost w x e = rw (eq-eqb x 4 e, and-off (not (eqb x 0)), and-off w) refl
+
+pub number-used : {w : Bool} {r : ℕ} (x : ℕ) → r ≡ 5 → w ≡ true → (x ≡ 0 → ⊥) → (x ≡ 4 → ⊥) → r ≡ numberAs w x
+unfolding numberAs
+number-used x q e a b = rw (e, ne-eqb x 0 a, ne-eqb x 4 b) q
+
 module _ (Z : Shape) (present : ℕ) (b : Bytes) (c : ℕ) where
   pub absent-off : has present c ≡ false → viewsIn (settingOf Z 0 present) b c .readable ≡ false
-  unfolding viewsIn viewsOf viewOf settingOf
+  unfolding viewsIn viewsOf seenAs viewOf settingOf
   absent-off e = rw e refl
 
   pub refused-off : (imageRefusal (Z .m) (decode Z b c) ≡ 0 → ⊥) → viewsIn (settingOf Z 0 present) b c .readable ≡ false
-  unfolding viewsIn viewsOf viewOf settingOf
+  unfolding viewsIn viewsOf seenAs viewOf settingOf
   refused-off e = rw (ne-eqb (imageRefusal (Z .m) (decode Z b c)) 0 e) (and-off (has present c))
 
   -- f and l are what the code keeps of the view
-  pub seen-more : {readable r first len f l : ℕ} {firsts lengths conditions epochs seen-conditions seen-epochs conditions′ epochs′ : List ℕ}
+  pub seen-more : {readable r first len f l : ℕ} {firsts lengths conditions epochs seen-conditions seen-epochs conditions′ epochs′ : List ℕ} {w : Bool} {number : ℕ} → w ≡ isWitness Z number → number ≡ c + 1
       → Partly (Z .m) (viewsIn (settingOf Z 0 present) b) readable firsts lengths conditions epochs c → c < 7 → Z .m ≤ 64 → has present c ≡ true → imageRefusal (Z .m) (decode Z b c) ≡ 0
-      → Seen (Z .m) (decode Z b c) first len seen-conditions seen-epochs → Copied c conditions seen-conditions conditions′ 64 → Copied c epochs seen-epochs epochs′ 64 → r ≡ inserted readable c
+      → Seen (Z .m) (decode Z b c) first len seen-conditions seen-epochs → Copied c conditions (λ k. numberAs w (getD seen-conditions k 0)) conditions′ 64 → Copied c epochs (λ k. getD seen-epochs k 0) epochs′ 64 → r ≡ inserted readable c
       → f ≡ first → l ≡ len → Partly (Z .m) (viewsIn (settingOf Z 0 present) b) r (set firsts c f) (set lengths c l) conditions′ epochs′ (c + 1)
-  unfolding viewsIn viewsOf viewOf settingOf conditionsOf
-  seen-more {readable} {r} {first} {len} {f} {l} {firsts} {lengths} {conditions} {epochs} {seen-conditions} {seen-epochs} p c7 m64 on ok s x y q fs ls =
+  unfolding viewsIn viewsOf seenAs viewOf settingOf conditionsOf
+  seen-more {readable} {r} {first} {len} {f} {l} {firsts} {lengths} {conditions} {epochs} {seen-conditions} {seen-epochs} {w = w} {number = number} u num p c7 m64 on ok s x y q fs ls =
+      let v : w ≡ isWitness Z (suc c) = rw (num, add-one) at u in
       rw (q, fs, ls) (partly-more c first len p c7 m64 (rw (on, eq-eqb _ _ ok) refl) (s .first-is) (s .length-is)
-      (taken-at (Z .m) (λ k. conditionNumber (conditionAt (decode Z b c) k)) seen-conditions (s .conditions-are))
+      (λ k h. ap (numberAs w) (taken-at (Z .m) (λ k. conditionNumber (conditionAt (decode Z b c) k)) seen-conditions (s .conditions-are) k h)
+      ∙ number-as w (conditionAt (decode Z b c) k)
+      ∙ ap (λ (t : Bool). conditionNumber (conditionAs t (conditionAt (decode Z b c) k))) v)
       (taken-at (Z .m) (epochAt (decode Z b c)) seen-epochs (s .epochs-are)) x y)
 
 -- the leader makes no difference

@@ -11,7 +11,7 @@ use lib.Pow.{high-ones, pow-pos, pow-add, high, shl-exact}
 use lib.Count.{ones, onesIn, ones-cat}
 use lib.Dec.{eqb}
 use Rattle.search.specs.Search.{oneIf, sum, count}
-use Rattle.planner.specs.Setting.{has}
+use Rattle.search.specs.Sets.{has}
 use Rattle.planner.specs.Sets.{inserted, setOf}
 
 -- ---- one bit of a word

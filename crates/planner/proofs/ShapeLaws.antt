@@ -1,9 +1,9 @@
--- Refusals 1, 2, 3 and 11: the numbers, the set and the cluster's length.
+-- Refusals 1, 2, 3, 11 and 22: the numbers, the sets and the cluster's length.
 use Prim.Native.Nat.{ℕ, _+_, _*_, _/_, _^_, _≤_}
 use mathlib.Core.Path.{_≡_, refl, sym, _∙_}
 use mathlib.Core.Bool.{Bool, true, false, _&&_}
 use native.Mathlib.Omega.{arith}
-use native.Mathlib.Nat.{mul-le-mul, div-eq-of-lt, div-lt-iff-lt-mul, one-mul}
+use native.Mathlib.Nat.{div-eq-of-lt, div-lt-iff-lt-mul, one-mul}
 use lib.Pow.{pow-pos}
 use lib.Dec.{eqb, ltb}
 use borrow.Author.Tests.{ltb-true, lt-ltb, eq-eqb, ne-eqb, eqb-true, not-false}
@@ -11,24 +11,22 @@ use Rattle.slices.proofs.SameLaws.{and-left, and-right, and-off}
 use Rattle.record.specs.declared.Shape.{Shape}
 use Rattle.image.specs.Refusal.{refuse, _else_}
 use Rattle.image.specs.View.{isSize, isSlots, isEdition}
-use Rattle.image.specs.Image.{imageSize}
 use Rattle.image.specs.Cluster.{imageAt}
 use Rattle.image.proofs.RefusalLaws.{refuse-zero, else-zero-l, else-zero-r}
 use Rattle.planner.specs.Plan.{shapeRefusal}
-use Rattle.image.proofs.DecodeLaws.{size-few}
-use Rattle.image.proofs.ClusterLaws.{image-at}
+use Rattle.image.proofs.ClusterLaws.{images-few}
 
 pub cluster-fits : (Z : Shape) → Z .n ≤ 7 → Z .m ≤ 64 → imageAt Z (Z .n) ≤ 123025
-cluster-fits Z h g = omega (arith, image-at Z (Z .n), mul-le-mul {n₁ = imageSize Z 1} {m₁ = Z .n} {n₂ = 17575} {m₂ = 7} (size-few Z 1 g) h)
+cluster-fits Z h g = omega (arith, images-few Z (Z .n) g)
 
-shifted : (n present : ℕ) → (present / 2 ^ n ≡ 0 → ⊥) → ltb present (2 ^ n) ≡ false
+pub shifted : (n present : ℕ) → (present / 2 ^ n ≡ 0 → ⊥) → ltb present (2 ^ n) ≡ false
 shifted n present e = go (ltb present (2 ^ n)) refl
   where
     go : (t : Bool) → ltb present (2 ^ n) ≡ t → t ≡ false
     go true q = absurd (e (div-eq-of-lt (ltb-true present (2 ^ n) q)))
     go false q = refl
 
-unshifted : (n present : ℕ) → present / 2 ^ n ≡ 0 → ltb present (2 ^ n) ≡ true
+pub unshifted : (n present : ℕ) → present / 2 ^ n ≡ 0 → ltb present (2 ^ n) ≡ true
 unshifted n present e =
     lt-ltb present (2 ^ n) (rw one-mul at (div-lt-iff-lt-mul {k = 2 ^ n} {x = present} {y = 1} (pow-pos n) .0 (omega (arith, e))))
 
@@ -55,13 +53,18 @@ module _ (Z : Shape) (present size : ℕ) where
         sized : eqb size (imageAt Z (Z .n)) ≡ true
         sized = eq-eqb size (imageAt Z (Z .n)) (b ∙ a)
 
-        pub shape-set : (present / 2 ^ Z .n ≡ 0 → ⊥) → 11 ≡ shapeRefusal Z present size
+        pub shape-set : ltb present (2 ^ Z .n) ≡ false → 11 ≡ shapeRefusal Z present size
         unfolding shapeRefusal refuse _else_
-        shape-set e = rw (s, z, d, sized, shifted (Z .n) present e) refl
+        shape-set e = rw (s, z, d, sized, e) refl
 
-        pub shape-none : present / 2 ^ Z .n ≡ 0 → 0 ≡ shapeRefusal Z present size
-        unfolding shapeRefusal refuse _else_
-        shape-none e = rw (s, z, d, sized, unshifted (Z .n) present e) refl
+        module _ (p : ltb present (2 ^ Z .n) ≡ true) where
+          pub shape-witnesses : ltb (Z .witnesses) (2 ^ Z .n) ≡ false → 22 ≡ shapeRefusal Z present size
+          unfolding shapeRefusal refuse _else_
+          shape-witnesses e = rw (s, z, d, sized, p, e) refl
+
+          pub shape-none : ltb (Z .witnesses) (2 ^ Z .n) ≡ true → 0 ≡ shapeRefusal Z present size
+          unfolding shapeRefusal refuse _else_
+          shape-none e = rw (s, z, d, sized, p, e) refl
 
   module _ (r : shapeRefusal Z present size ≡ 0) where
     pub shaped-slots : isSlots (Z .m) ≡ true

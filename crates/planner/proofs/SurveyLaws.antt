@@ -9,15 +9,15 @@ use lib.ListN.{getD}
 use borrow.Author.Tests.{ne-eqb}
 use Rattle.slices.proofs.SameLaws.{and-off}
 use Rattle.image.specs.Read.{isWhole}
-use Rattle.planner.specs.Setting.{has}
+use Rattle.search.specs.Sets.{has}
 use Rattle.planner.specs.Rules.{isFaulty, isUsed, answers, agrees, have, dontHave}
 use Rattle.planner.specs.Survey.{conditionFrom, surveySetting, surveyViews, agreesAt}
 
 -- ---- conditions by number
 
--- a number above 3 is none of the others
-above : (x b : ℕ) → b ≤ 3 → eqb (suc (suc (suc (suc x)))) b ≡ false
-above x b h = ne-eqb (suc (suc (suc (suc x)))) b (λ e. omega arith)
+-- a number above 4 is none of the others
+above : (x b : ℕ) → b ≤ 3 → eqb (suc (suc (suc (suc (suc x))))) b ≡ false
+above x b h = ne-eqb (suc (suc (suc (suc (suc x))))) b (λ e. omega arith)
 
 pub whole-number : (x : ℕ) → isWhole (conditionFrom x) ≡ (eqb x 1 || eqb x 2)
 unfolding isWhole conditionFrom
@@ -25,7 +25,8 @@ whole-number zero = refl
 whole-number (suc zero) = refl
 whole-number (suc (suc zero)) = refl
 whole-number (suc (suc (suc zero))) = refl
-whole-number (suc (suc (suc (suc x)))) = rw (above x 1 (omega arith), above x 2 (omega arith)) refl
+whole-number (suc (suc (suc (suc zero)))) = refl
+whole-number (suc (suc (suc (suc (suc x))))) = rw (above x 1 (omega arith), above x 2 (omega arith)) refl
 
 pub used-number : (x : ℕ) → isUsed (conditionFrom x) ≡ not (eqb x 0)
 unfolding isUsed conditionFrom
@@ -33,7 +34,8 @@ used-number zero = refl
 used-number (suc zero) = refl
 used-number (suc (suc zero)) = refl
 used-number (suc (suc (suc zero))) = refl
-used-number (suc (suc (suc (suc x)))) = rw (above x 0 (omega arith)) refl
+used-number (suc (suc (suc (suc zero)))) = refl
+used-number (suc (suc (suc (suc (suc x))))) = rw (above x 0 (omega arith)) refl
 
 pub faulty-number : (x : ℕ) → isFaulty (conditionFrom x) ≡ eqb x 3
 unfolding isFaulty conditionFrom
@@ -41,7 +43,8 @@ faulty-number zero = refl
 faulty-number (suc zero) = refl
 faulty-number (suc (suc zero)) = refl
 faulty-number (suc (suc (suc zero))) = refl
-faulty-number (suc (suc (suc (suc x)))) = rw (above x 3 (omega arith)) refl
+faulty-number (suc (suc (suc (suc zero)))) = refl
+faulty-number (suc (suc (suc (suc (suc x))))) = rw (above x 3 (omega arith)) refl
 
 -- ---- the answers of replica c about slot k
 

@@ -7,13 +7,15 @@ use lib.ListN.{length}
 use Rattle.search.specs.Search.{oneIf, count}
 use Rattle.slices.specs.Parts.{Bytes}
 use Rattle.record.specs.declared.Shape.{Shape}
+use Rattle.record.specs.Meaning.{good, blank}
 use Rattle.image.specs.Image.{Image}
 use Rattle.image.specs.View.{View, isSize, isSlots, isEdition, isLost, conditionAt, imageRefusal, readRefusal}
 use Rattle.image.specs.Verdict.{verdictAt}
 use Rattle.image.specs.Read.{isWhole}
-use Rattle.image.specs.Cluster.{imageAt, imagePart, firstAt}
-use Rattle.planner.specs.Setting.{Setting, has, settingOf}
-use Rattle.planner.specs.Rules.{majority, mayTruncate, isFaulty, isUsed, answers, have, haveFaulty, dontHave, sameFirsts}
+use Rattle.image.specs.Cluster.{Cluster, imageAt, imagePart, firstAt}
+use Rattle.search.specs.Sets.{has}
+use Rattle.planner.specs.Setting.{Setting, settingOf, witness, viewsOf}
+use Rattle.planner.specs.Rules.{majority, mayTruncate, isFaulty, isUsed, answers, have, haveFaulty, dontHave, mayLead, sameFirsts}
 use Rattle.planner.specs.Plan.{viewsIn}
 
 pub record AskingClaim : Type 0 where
@@ -34,6 +36,15 @@ pub record AskingClaim : Type 0 where
   -- a replica that is asked gives exactly one of the three answers, and no other replica gives one
   pub one-answer : (S : Setting) (W : ℕ → View) (k c : ℕ) → isLost (W c .condition k) ≡ false
       → oneIf (have S W k c) + oneIf (haveFaulty S W k c) + oneIf (dontHave S W k c) ≡ oneIf (answers S W c)
+  -- a witness answers have-faulty for a good record of the asked epoch, otherwise don't-have; it never donates and never leads (02, Seven)
+  pub witness-good : (S : Setting) (F : Cluster) (k c e : ℕ) → witness S c ≡ true → answers S (viewsOf S F) c ≡ true → F c .records k ≡ good e
+      → haveFaulty S (viewsOf S F) k c ≡ eqb e (viewsOf S F (S .leader) .epoch k)
+  pub witness-other : (S : Setting) (F : Cluster) (k c e : ℕ) → witness S c ≡ true → answers S (viewsOf S F) c ≡ true → F c .records k ≡ good e
+      → dontHave S (viewsOf S F) k c ≡ not (eqb e (viewsOf S F (S .leader) .epoch k))
+  pub witness-blank : (S : Setting) (F : Cluster) (k c : ℕ) → witness S c ≡ true → answers S (viewsOf S F) c ≡ true → F c .records k ≡ blank
+      → dontHave S (viewsOf S F) k c ≡ true
+  pub witness-donates : (S : Setting) (F : Cluster) (k c : ℕ) → witness S c ≡ true → have S (viewsOf S F) k c ≡ false
+  pub witness-leads : (S : Setting) (W : ℕ → View) → witness S (S .leader) ≡ true → mayLead S W ≡ false
   -- a majority is (n + 1) / 2 of an odd n; of four it is three and of six four (02, One)
   pub majority-odd : (k : ℕ) → majority (k + k + 1) ≡ (k + k + 1 + 1) / 2
   pub majority-four : majority 4 ≡ 3

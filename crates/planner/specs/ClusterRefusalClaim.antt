@@ -12,13 +12,13 @@ use Rattle.image.specs.View.{readRefusal}
 use Rattle.image.specs.Cluster.{imageAt, imagePart, firstAt}
 use Rattle.planner.specs.Plan.{clusterRefusal, planRefusal}
 
--- the order in which the numbers are tried: 21 behind 12, and before 13 (02, Six)
+-- the order in which the numbers are tried: 21 behind 12, and before 13 (02, Six); 22 behind 11 (02, Seven)
 unfoldable pub tried : List ℕ
-tried = 1 ∷ 2 ∷ 3 ∷ 11 ∷ 12 ∷ 21 ∷ 13 ∷ []
+tried = 1 ∷ 2 ∷ 3 ∷ 11 ∷ 22 ∷ 12 ∷ 21 ∷ 13 ∷ []
 
 -- where a number stands in it
 unfoldable pub rank : ℕ → ℕ
-rank q = lowest (λ i. eqb (getD tried i 0) q) 7
+rank q = lowest (λ i. eqb (getD tried i 0) q) 8
 
 -- r is the first number in that order whose refusal applies, 0 if none does
 pub record FirstApplying (Applies : ℕ → Type 0) (r : ℕ) : Type 0 where
@@ -38,10 +38,13 @@ pub data ClusterRefused (Z : Shape) (leading present : ℕ) (b : Bytes) : ℕ �
   size : ¬ (length b ≡ imageAt Z (Z .n)) → ClusterRefused Z leading present b 3
   -- a bit for no replica: theirs are the bits below n
   stray : (c : ℕ) → Z .n ≤ c → InSet present c → ClusterRefused Z leading present b 11
-  -- the leader is not 1 to n, not in the set, or unreadable: its own image is refused
+  -- the same of the set of witnesses
+  stray-witness : (c : ℕ) → Z .n ≤ c → InSet (Z .witnesses) c → ClusterRefused Z leading present b 22
+  -- the leader is not 1 to n, not in the set, or unreadable: its own image is refused; or a witness, its image readable or not
   no-leader : ¬ ((1 ≤ leading) × (leading ≤ Z .n)) → ClusterRefused Z leading present b 12
   away : ¬ (InSet present (pred leading)) → ClusterRefused Z leading present b 12
   unreadable : ¬ (readRefusal Z leading (imagePart Z b (pred leading)) ≡ 0) → ClusterRefused Z leading present b 12
+  leader-witness : InSet (Z .witnesses) (pred leading) → ClusterRefused Z leading present b 12
   -- a replica in the set that is readable has a log that begins at another index than the leader's
   other-first : (c : ℕ) → c < Z .n → InSet present c → readRefusal Z (suc c) (imagePart Z b c) ≡ 0 → ¬ (firstAt Z b c ≡ firstAt Z b (pred leading))
       → ClusterRefused Z leading present b 21

@@ -1,5 +1,5 @@
 -- The planner's call: its refusal, its answer in document 01's numbers, the plan bytes and the rows of the table.
-use Prim.Native.Nat.{ℕ, pred, suc, _+_, _^_, _-_}
+use Prim.Native.Nat.{ℕ, suc, _+_, _^_, _-_}
 use mathlib.Core.Bool.{cond, not, _&&_}
 use lib.Dec.{eqb, leb, ltb}
 use lib.ListN.{length}
@@ -10,25 +10,26 @@ use Rattle.image.specs.Refusal.{refuse, _else_}
 use Rattle.image.specs.View.{Condition, conditionNumber, View, isSize, isReplica, isSlots, isEdition}
 use Rattle.image.specs.Cluster.{decode, imageAt}
 use Rattle.planner.specs.Setting.{Setting, settingOf, viewsOf}
-use Rattle.planner.specs.Rules.{Rule, Keep, Fetch, Truncate, Wait, rule, donor, end, sameFirsts}
+use Rattle.planner.specs.Rules.{Rule, Keep, Fetch, Truncate, Wait, rule, donor, end, mayLead, sameFirsts}
 
 -- what is seen of the cluster in a buffer
 unfoldable pub viewsIn : Setting → Bytes → ℕ → View
 viewsIn S b = viewsOf S (decode (S .shape) b)
 
--- refusals 1, 2, 3 and 11: what is known of a call before an image is read
+-- refusals 1, 2, 3, 11 and 22: what is known of a call before an image is read. 22 is a witness that is no replica (02, Seven)
 unfoldable pub shapeRefusal : Shape → ℕ → ℕ → ℕ
 shapeRefusal Z present size =
     refuse 1 (not (isSlots (Z .m)))
     else refuse 2 (not (isSize (Z .n) && isEdition (Z .edition)))
     else refuse 3 (not (eqb size (imageAt Z (Z .n))))
     else refuse 11 (not (ltb present (2 ^ Z .n)))
+    else refuse 22 (not (ltb (Z .witnesses) (2 ^ Z .n)))
 
 -- these, then 12, then 21: the refusals of planning, step and run, in the order in which they are tried
 unfoldable pub clusterRefusal : Shape → ℕ → ℕ → Bytes → ℕ
 clusterRefusal Z leading present b =
     shapeRefusal Z present (length b)
-    else refuse 12 (not (isReplica (Z .n) leading && viewsIn (settingOf Z leading present) b (pred leading) .readable))
+    else refuse 12 (not (isReplica (Z .n) leading && mayLead (settingOf Z leading present) (viewsIn (settingOf Z leading present) b)))
     else refuse 21 (not (sameFirsts (settingOf Z leading present) (viewsIn (settingOf Z leading present) b)))
 
 -- 13, after all else that applies: the plan has not m bytes, or the table not n rows

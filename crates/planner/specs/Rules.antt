@@ -5,7 +5,7 @@ use lib.Dec.{eqb, ltb}
 use Rattle.search.specs.Search.{lowest, count, all}
 use Rattle.image.specs.View.{Condition, conditionNumber, View}
 use Rattle.image.specs.Read.{isWhole}
-use Rattle.planner.specs.Setting.{Setting}
+use Rattle.planner.specs.Setting.{Setting, witness}
 
 -- 01's majority, and of an even n 02's (One): more than half of n
 unfoldable pub majority : ℕ → ℕ
@@ -22,6 +22,10 @@ isFaulty a = eqb (conditionNumber a) 3
 
 unfoldable pub isRecordLost : Condition → Bool
 isRecordLost a = eqb (conditionNumber a) 2
+
+-- a witness's used slot (02, Seven): it answers have-faulty, and no entry is missing there
+unfoldable pub isRecordOnly : Condition → Bool
+isRecordOnly a = eqb (conditionNumber a) 5
 
 unfoldable pub isUsed : Condition → Bool
 isUsed a = not (eqb (conditionNumber a) 0)
@@ -63,7 +67,7 @@ module _ (S : Setting) (W : ℕ → View) where
   have k c = answers c && isWhole (W c .condition k) && agrees c k
 
   unfoldable pub haveFaulty : ℕ → ℕ → Bool
-  haveFaulty k c = answers c && isFaulty (W c .condition k) && agrees c k
+  haveFaulty k c = answers c && (isFaulty (W c .condition k) || isRecordOnly (W c .condition k)) && agrees c k
 
   unfoldable pub dontHave : ℕ → ℕ → Bool
   dontHave k c = answers c && not (agrees c k)
@@ -87,6 +91,10 @@ module _ (S : Setting) (W : ℕ → View) where
   unfoldable pub firstWaiting : ℕ
   firstWaiting = lowest (λ k. isWait (rule k)) end
 
+-- a leader is readable, and no witness (02, Seven)
+unfoldable pub mayLead : Setting → (ℕ → View) → Bool
+mayLead S W = W (S .leader) .readable && not (witness S (S .leader))
+
 -- every readable present replica's log begins at the leader's first index (02, Six)
 unfoldable pub sameFirsts : Setting → (ℕ → View) → Bool
 sameFirsts S W = all (λ c. not (W c .readable) || eqb (W c .first) (W (S .leader) .first)) (S .shape .n)
@@ -99,6 +107,6 @@ pub data Answer : Type 0 where
 
 unfoldable pub answer : Setting → (ℕ → View) → Answer
 answer S W =
-    cond (W (S .leader) .readable && sameFirsts S W)
+    cond (mayLead S W && sameFirsts S W)
     (cond (ltb (firstWaiting S W) (end S W)) (Waiting (firstWaiting S W)) (Ready (end S W)))
     Refused

@@ -1,8 +1,13 @@
--- For proofs only. Sets of replicas as words: bit c, worth 2 to the power c, stands for replica c (`has` of Setting).
+-- For proofs only. Sets of replicas as words: bit c, worth 2 to the power c, stands for replica c (`has` of search).
 use Prim.Native.Nat.{ℕ, zero, suc, _+_, _*_, _^_}
 use mathlib.Core.Bool.{Bool, cond}
+use lib.Dec.{ltb}
 use Rattle.search.specs.Search.{oneIf}
-use Rattle.planner.specs.Setting.{has}
+use Rattle.search.specs.Sets.{has}
+
+-- every replica in the set is below n
+unfoldable pub isWithin : ℕ → ℕ → Bool
+isWithin w n = ltb w (2 ^ n)
 
 -- the set with replica c in it
 unfoldable pub inserted : ℕ → ℕ → ℕ

@@ -1,5 +1,5 @@
 -- For proofs only. A survey: what is seen of each replica, in numbers. Slot k of replica c stands at c * 64 + k.
-use Prim.Native.Nat.{ℕ, zero, suc, _+_, _*_, _<_, _≤_}
+use Prim.Native.Nat.{ℕ, zero, suc, pred, _+_, _*_, _<_, _≤_}
 use mathlib.Core.Path.{_≡_}
 use mathlib.Core.Bool.{Bool, true, false, cond, not, _&&_, _||_}
 use mathlib.Core.List.{List}
@@ -7,10 +7,12 @@ use lib.Dec.{eqb, ltb}
 use lib.ListN.{length, getD, take}
 use Rattle.search.specs.Search.{all}
 use Rattle.record.specs.declared.Shape.{Shape}
-use Rattle.image.specs.View.{Condition, Unused, Whole, RecordLost, Faulty, Lost, View}
-use Rattle.image.specs.View.{conditionNumber}
+use Rattle.image.specs.View.{Condition, Unused, Whole, RecordLost, Faulty, Lost, RecordOnly, View}
+use Rattle.image.specs.Refusal.{refuse}
+use Rattle.image.specs.View.{conditionNumber, isReplica}
 use Rattle.slices.specs.Parts.{Bytes}
-use Rattle.planner.specs.Setting.{Setting, settingOf, has}
+use Rattle.search.specs.Sets.{has}
+use Rattle.planner.specs.Setting.{Setting, settingOf, witness}
 use Rattle.planner.specs.Rules.{rule, donor, isTruncate, end, firstWaiting, sameFirsts}
 use Rattle.planner.specs.Plan.{viewsIn, ruleByte, planBytes}
 use Rattle.planner.specs.declared.Survey.{Survey}
@@ -25,9 +27,9 @@ pub record Surveyed (n m : ℕ) (W : ℕ → View) (readable : ℕ) (firsts leng
   pub epoch-is : (c k : ℕ) → c < n → k < m → W c .readable ≡ true → getD epochs (c * 64 + k) 0 ≡ W c .epoch k
 
 -- k of what is seen of replica c stands at its slots, and what stood below them stands
-pub record Copied (c : ℕ) (old seen new : List ℕ) (k : ℕ) : Type 0 where
+pub record Copied (c : ℕ) (old : List ℕ) (seen : ℕ → ℕ) (new : List ℕ) (k : ℕ) : Type 0 where
   pub same-size : length new ≡ length old
-  pub here : (j : ℕ) → j < k → getD new (c * 64 + j) 0 ≡ getD seen j 0
+  pub here : (j : ℕ) → j < k → getD new (c * 64 + j) 0 ≡ seen j
   pub below : (i : ℕ) → i < c * 64 → getD new i 0 ≡ getD old i 0
 
 -- the condition of a number
@@ -36,7 +38,16 @@ conditionFrom zero = Unused
 conditionFrom (suc zero) = Whole
 conditionFrom (suc (suc zero)) = RecordLost
 conditionFrom (suc (suc (suc zero))) = Faulty
-conditionFrom (suc (suc (suc (suc x)))) = Lost
+conditionFrom (suc (suc (suc (suc zero)))) = Lost
+conditionFrom (suc (suc (suc (suc (suc x))))) = RecordOnly
+
+-- the number of a condition, as it is seen of a witness or of a card (`conditionAs`)
+unfoldable pub numberAs : Bool → ℕ → ℕ
+numberAs witness x = cond (witness && (not (eqb x 0) && not (eqb x 4))) 5 x
+
+-- refusal 12, by the readable set and the witnesses: the leader's number is out of range, or the replica may not lead
+unfoldable pub leaderTest : ℕ → ℕ → ℕ → ℕ → ℕ
+leaderTest readable witnesses n leading = refuse 12 (not (isReplica n leading && (has readable (pred leading) && not (has witnesses (pred leading)))))
 
 -- every readable replica below n has the leader's first index
 unfoldable pub sameNumbers : ℕ → ℕ → ℕ → List ℕ → Bool
@@ -44,7 +55,7 @@ sameNumbers n leader readable firsts = all (λ c. not (has readable c) || eqb (g
 
 -- n replicas and their leader, from 0
 unfoldable pub surveySetting : ℕ → ℕ → Setting
-surveySetting n leader = record { shape = record { n = n; m = 64; edition = 1 }; leader = leader; present = λ c. true }
+surveySetting n leader = record { shape = record { n = n; m = 64; edition = 1; witnesses = 0 }; leader = leader; present = λ c. true }
 
 -- what a survey's numbers say, where the leader's log is so long. The rules of a slot look at no first index: any will do
 unfoldable pub surveyViews : ℕ → ℕ → List ℕ → List ℕ → ℕ → View
@@ -76,7 +87,7 @@ pub record Walked (S : Setting) (W : ℕ → View) (bytes : List ℕ) (k : ℕ) 
 unfoldable pub markedByte : List ℕ → ℕ → ℕ → ℕ → ℕ
 markedByte bytes e l k = cond (ltb k e) (getD bytes k 0) (cond (ltb k l) (cond (eqb k e) 4 5) (getD bytes k 0))
 
--- a survey is that of the views W, in which the leader is readable and all that are readable have its first index
+-- a survey is that of the views W, in which the leader is readable, no witness, and all that are readable have its first index
 pub record SurveyOf (S : Setting) (W : ℕ → View) (n leader readable : ℕ) (firsts lengths conditions epochs : List ℕ) : Type 0 where
   pub n-is : S .shape .n ≡ n
   pub leader-is : S .leader ≡ leader
@@ -84,6 +95,7 @@ pub record SurveyOf (S : Setting) (W : ℕ → View) (n leader readable : ℕ) (
   pub leader-below : leader < n
   pub slots-fit : S .shape .m ≤ 64
   pub leader-reads : W leader .readable ≡ true
+  pub leader-card : witness S leader ≡ false
   pub same-firsts : sameFirsts S W ≡ true
   pub logs-fit : (c : ℕ) → W c .length ≤ S .shape .m
   pub surveyed : Surveyed n (S .shape .m) W readable firsts lengths conditions epochs

@@ -7,7 +7,8 @@ use lib.Dec.{eqb, ltb}
 use lib.ListN.{length, getD, take, drop}
 use Rattle.image.specs.View.{View}
 use Rattle.image.specs.Answers.{Numbered, value}
-use Rattle.planner.specs.Setting.{Setting, has}
+use Rattle.search.specs.Sets.{has}
+use Rattle.planner.specs.Setting.{Setting}
 use Rattle.planner.specs.Rules.{Waiting, Ready, answer}
 use Rattle.planner.specs.declared.PlanAnswer.{PlanAnswer}
 use Rattle.planner.specs.declared.ReplicaRow.{ReplicaRow}

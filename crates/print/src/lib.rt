@@ -146,6 +146,7 @@ pub fn report_of(input: &[u8]) -> Report
             n,
             m,
             edition: OLD_EDITION,
+            witnesses: 0,
         },
         leading,
         present_word(n, leading, present),

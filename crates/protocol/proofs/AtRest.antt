@@ -1,5 +1,5 @@
 -- What a cluster looks like when its plan is ready and no store is outstanding: every readable present replica is whole in every slot of the leader's log, under its epochs.
-use mathlib.Core.Path.{_≡_, refl, sym}
+use mathlib.Core.Path.{_≡_, refl, sym, _∙_}
 use mathlib.Core.Bool.{Bool, true, false, cond, true≢false}
 use mathlib.Core.Option.{Option, none, some}
 use Prim.Native.Nat.{ℕ, _≤_, _<_}
@@ -12,14 +12,15 @@ use Rattle.search.proofs.SearchLaws.{lowest-le, lowest-passes, below-lowest}
 use Rattle.slices.specs.Parts.{Bytes}
 use Rattle.record.specs.Meaning.{Record, good, blank, bad, Entry, intact, broken}
 use Rattle.image.specs.Cluster.{Cluster}
-use Rattle.image.specs.View.{View, Whole, Faulty, condition, epochOf, conditionAt, epochAt, viewOf}
-use Rattle.planner.specs.Setting.{Setting, viewsOf}
+use Rattle.image.specs.View.{View, Whole, Faulty, condition, epochOf, conditionAt, epochAt, viewOf, seenAs}
+use Rattle.planner.specs.Setting.{Setting, witness, viewsOf}
 use Rattle.planner.specs.Rules.{isFaulty, isRecordLost, answers, answer, Ready}
 use Rattle.protocol.specs.Store.{Store}
 use Rattle.protocol.specs.Recovery.{_or_, leaderStore, differs, firstDiffering, followerStore, isSome, unlike, due, firstOf, followersStore, ifReady, next}
 use Rattle.protocol.proofs.ChainLaws.{or-none-l, or-none-r, below-none}
 use Rattle.protocol.proofs.ReadyPlan.{ReadyPlan, ready-facts}
 use Rattle.protocol.proofs.LeaderDue.{LeaderDone, leader-done}
+use Rattle.protocol.proofs.Effects.{card-same}
 use Rattle.protocol.proofs.Slots.{slot-whole, leader-whole, below-differing}
 
 -- a whole slot, in bytes
@@ -104,20 +105,20 @@ at-rest-facts S F l a e =
       followers = λ c cn an. follower-done S (viewsOf S F) (unlike S F c) c (rw an at (first-none (due S F) (S .shape .n) f c cn));
     }
 
--- every readable present replica has every slot of the leader's log whole under the leader's epoch
+-- every readable present replica has every slot of the leader's log used under the leader's epoch; a card has it whole
 pub record Copied (S : Setting) (F : Cluster) (c k : ℕ) : Type 0 where
   pub within : k < viewsOf S F c .length
   pub epochs : viewsOf S F c .epoch k ≡ viewsOf S F (S .leader) .epoch k
-  pub slot : WholeSlot (viewsOf S F (S .leader) .epoch k) (F c .records k) (F c .entries k)
+  pub slot : witness S c ≡ false → WholeSlot (viewsOf S F (S .leader) .epoch k) (F c .records k) (F c .entries k)
 
 pub rest-whole : (S : Setting) (F : Cluster) → AtRest S F → (c k : ℕ) → c < S .shape .n → viewsOf S F c .readable ≡ true → k < viewsOf S F (S .leader) .length → Copied S F c k
-unfolding viewsOf viewOf conditionAt epochAt answers
+unfolding viewsOf seenAs viewOf conditionAt epochAt answers
 rest-whole S F r c k cn ok h = go (ℕ-discrete c (S .leader))
   where
     go : Dec (c ≡ S .leader) → Copied S F c k
-    go (yes q) = rw q (record { within = h; epochs = refl; slot = whole-slot (F (S .leader) .records k) (F (S .leader) .entries k) (leader-whole S F (r .plan .leader) (r .leader) k h) })
+    go (yes q) = rw q (record { within = h; epochs = refl; slot = λ card. whole-slot (F (S .leader) .records k) (F (S .leader) .entries k) (sym (card-same (witness S (S .leader)) _ card) ∙ leader-whole S F card (r .plan .leader) (r .leader) k h) })
     go (no q) =
         let d = r .followers c cn (rw (ne-eqb c (S .leader) q) ok) in
         let b : k < viewsOf S F c .length = omega (arith, d .complete) in
         let y = below-differing S (viewsOf S F) c k (omega (arith, d .untruncated, b)) in
-        record { within = b; epochs = y .epochs; slot = rw (← y .epochs) (whole-slot (F c .records k) (F c .entries k) (slot-whole S F c k ok b (d .unfaulty k b) (d .unlost k b))) }
+        record { within = b; epochs = y .epochs; slot = λ card. rw (← y .epochs) (whole-slot (F c .records k) (F c .entries k) (sym (card-same (witness S c) _ card) ∙ slot-whole S F c k card ok b (d .unfaulty k b) (d .unlost k b))) }

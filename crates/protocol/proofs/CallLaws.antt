@@ -14,10 +14,10 @@ use Rattle.image.specs.Cluster.{imageAt}
 use Rattle.image.specs.View.{View}
 use Rattle.image.proofs.RefusalLaws.{refuse-off, else-zero-l}
 use Rattle.planner.specs.Setting.{Setting, settingOf}
-use Rattle.planner.specs.Rules.{Answer, Refused, Waiting, Ready, answer, firstWaiting, end, sameFirsts}
+use Rattle.planner.specs.Rules.{Answer, Refused, Waiting, Ready, answer, firstWaiting, end, mayLead, sameFirsts}
 use Rattle.planner.specs.Plan.{viewsIn, clusterRefusal, lentRefusal, planRefusal}
 use Rattle.planner.proofs.ShapeLaws.{shaped-slots, shaped-size, shaped-edition, shaped-bytes}
-use Rattle.planner.proofs.CallLaws.{leader-accepted, firsts-accepted, cluster-shaped, cluster-cong}
+use Rattle.planner.proofs.CallLaws.{lead-accepted, lead-reads, leader-accepted, firsts-accepted, cluster-shaped, cluster-cong}
 use Rattle.protocol.specs.StepBytes.{nextIn, stepsBytes, storesBytes}
 use Rattle.protocol.specs.Call.{Call, plan, step, run, Numbers, named, budgetOf, refusalIn, refusalOf}
 use Rattle.protocol.proofs.ReadyPlan.{firsts-same}
@@ -30,6 +30,7 @@ pub record Accepted (N : Numbers) (b : Bytes) : Type 0 where
   pub editions : isEdition (N .shape .edition) ≡ true
   pub size : length b ≡ imageAt (N .shape) (N .shape .n)
   pub low : named N .leader < N .shape .n
+  pub leads : mayLead (named N) (viewsIn (named N) b) ≡ true
   pub readable : viewsIn (named N) b (named N .leader) .readable ≡ true
   pub firsts : sameFirsts (named N) (viewsIn (named N) b) ≡ true
 
@@ -44,6 +45,7 @@ accepted N b e =
       editions = shaped-edition (N .shape) (N .present) (length b) z;
       size = shaped-bytes (N .shape) (N .present) (length b) z;
       low = l .0;
+      leads = lead-accepted (N .shape) (N .leader) (N .present) b e;
       readable = l .1;
       firsts = firsts-accepted (N .shape) (N .leader) (N .present) b e;
     }
@@ -134,7 +136,7 @@ module _ (N : Numbers) (b : Bytes) where
     step-bytes = made-bytes N step b e
 
 -- ---- a cluster is refused, waits or is ready
-pub not-refused : (S : Setting) (b : Bytes) → viewsIn S b (S .leader) .readable ≡ true → sameFirsts S (viewsIn S b) ≡ true → answer S (viewsIn S b) ≡ Refused → ⊥
+pub not-refused : (S : Setting) (b : Bytes) → mayLead S (viewsIn S b) ≡ true → sameFirsts S (viewsIn S b) ≡ true → answer S (viewsIn S b) ≡ Refused → ⊥
 unfolding answer
 not-refused S b r f e = go (ltb (firstWaiting S (viewsIn S b)) (end S (viewsIn S b))) (rw (r, f) at e)
   where
@@ -143,11 +145,11 @@ not-refused S b r f e = go (ltb (firstWaiting S (viewsIn S b)) (end S (viewsIn S
     go false x = let z : _≡_ {A = ℕ} 0 1 = cc in omega arith
 
 -- what a cluster has for which the rules answer
-pub answers-with : (S : Setting) (W : ℕ → View) → (answer S W ≡ Refused → ⊥) → (W (S .leader) .readable ≡ true) × (sameFirsts S W ≡ true)
+pub answers-with : (S : Setting) (W : ℕ → View) → (answer S W ≡ Refused → ⊥) → (mayLead S W ≡ true) × (sameFirsts S W ≡ true)
 unfolding answer
-answers-with S W h = go (W (S .leader) .readable) (sameFirsts S W) refl refl
+answers-with S W h = go (mayLead S W) (sameFirsts S W) refl refl
   where
-    go : (r f : Bool) → W (S .leader) .readable ≡ r → sameFirsts S W ≡ f → (W (S .leader) .readable ≡ true) × (sameFirsts S W ≡ true)
+    go : (r f : Bool) → mayLead S W ≡ r → sameFirsts S W ≡ f → (mayLead S W ≡ true) × (sameFirsts S W ≡ true)
     go true true p q = (p, q)
     go true false p q = absurd (h (rw (p, q)))
     go false f p q = absurd (h (rw p))
@@ -158,8 +160,8 @@ pub refusal-kept : (N : Numbers) (a b : Bytes) → length a ≡ length b → ans
 unfolding settingOf
 refusal-kept N a b l x e =
     let v = accepted N b e in
-    let w = answers-with (named N) (viewsIn (named N) a) (λ q. not-refused (named N) b (v .readable) (v .firsts) (sym x ∙ q)) in
-    cluster-cong (N .shape) (N .leader) (N .present) a b l (w .0 ∙ sym (v .readable)) (w .1 ∙ sym (v .firsts)) ∙ e
+    let w = answers-with (named N) (viewsIn (named N) a) (λ q. not-refused (named N) b (v .leads) (v .firsts) (sym x ∙ q)) in
+    cluster-cong (N .shape) (N .leader) (N .present) a b l (lead-reads (named N) (viewsIn (named N) a) (w .0) ∙ sym (v .readable)) (w .1 ∙ sym (v .firsts)) ∙ e
 
 pub data Standing (N : Numbers) (b : Bytes) : Type 0 where
   isRefused : (refusalIn N b ≡ 0 → ⊥) → Standing N b
@@ -175,5 +177,5 @@ standing N b = go (ℕ-discrete (refusalIn N b) 0)
     by e (Ready l) x h = isReady e l x
 
     go : Dec (refusalIn N b ≡ 0) → Standing N b
-    go (yes e) = by e (answer (named N) (viewsIn (named N) b)) refl (not-refused (named N) b (accepted N b e .readable) (accepted N b e .firsts))
+    go (yes e) = by e (answer (named N) (viewsIn (named N) b)) refl (not-refused (named N) b (accepted N b e .leads) (accepted N b e .firsts))
     go (no h) = isRefused h

@@ -1,6 +1,6 @@
 -- The supposition is its own invariant. `pay k e` is the payload that every log with epoch e at slot k holds there, `prev k e` the epoch of the slot below it.
 use mathlib.Core.Path.{_≡_, sym, ap, _∙_}
-use mathlib.Core.Bool.{true}
+use mathlib.Core.Bool.{true, false}
 use Prim.Native.Nat.{ℕ, suc, _<_}
 use native.Mathlib.Omega.{arith}
 use native.Mathlib.Decide.{ℕ-discrete}
@@ -13,7 +13,7 @@ use Rattle.image.specs.SetSlot.{setEntry}
 use Rattle.image.specs.Cluster.{Cluster}
 use Rattle.image.specs.View.{View}
 use Rattle.image.proofs.StoreLaws.{entry-at, entry-off}
-use Rattle.planner.specs.Setting.{Setting, viewsOf}
+use Rattle.planner.specs.Setting.{Setting, witness, viewsOf}
 use Rattle.protocol.specs.Store.{Store}
 use Rattle.protocol.specs.ClusterSteps.{afterStore}
 use Rattle.protocol.proofs.ReadyPlan.{ReadyPlan}
@@ -25,7 +25,7 @@ use Rattle.protocol.proofs.Reach.{Torn, torn}
 use Rattle.protocol.proofs.Sources.{stored-source}
 
 pub record Consistent (S : Setting) (pay : ℕ → ℕ → Bytes) (prev : ℕ → ℕ → ℕ) (F : Cluster) : Type 0 where
-  pub payloads : (c k : ℕ) (p : Bytes) → c < S .shape .n → viewsOf S F c .readable ≡ true → k < viewsOf S F c .length
+  pub payloads : (c k : ℕ) (p : Bytes) → c < S .shape .n → witness S c ≡ false → viewsOf S F c .readable ≡ true → k < viewsOf S F c .length
       → F c .entries k ≡ intact (viewsOf S F c .epoch k) p → p ≡ pay k (viewsOf S F c .epoch k)
   pub chain : (c k : ℕ) → c < S .shape .n → viewsOf S F c .readable ≡ true → suc k < viewsOf S F c .length
       → viewsOf S F c .epoch k ≡ prev (suc k) (viewsOf S F c .epoch (suc k))
@@ -72,15 +72,15 @@ module _ (S : Setting) (pay : ℕ → ℕ → Bytes) (prev : ℕ → ℕ → ℕ
       let v = moved S F s r u in
       let p = same-plan S F (afterStore s F) r v in
       record {
-        payloads = λ c k q cn ok h e.
+        payloads = λ c k q cn card ok h e.
             let z = stored-source S F s n r u c k cn (sym (p .readables c) ∙ ok) h in
-            rw (← z .epochs) (i .payloads (z .from) k q (z .below) (z .ok) (z .within) (rw (z .entries, z .epochs) e));
+            rw (← z .epochs) (i .payloads (z .from) k q (z .below) (z .card card) (z .ok) (z .within) (rw (z .entries card, z .epochs) e));
         chain = λ c k cn ok h. move-chain F (afterStore s F) n r v i c k cn (sym (p .readables c) ∙ ok) h;
       }
 
   pub torn-consistent : (F G : Cluster) (s : Store) → Torn F s G → viewsOf S G ≡ viewsOf S F → Consistent S pay prev F → Consistent S pay prev G
   torn-consistent F G s (torn {c = d} {k = j} b) e i = record {
-    payloads = λ c k q cn ok h x. rw e (i .payloads c k q cn (rw e at ok) (rw e at h) (back c k q (rw e at x) (ℕ-discrete c d) (ℕ-discrete k j)));
+    payloads = λ c k q cn card ok h x. rw e (i .payloads c k q cn card (rw e at ok) (rw e at h) (back c k q (rw e at x) (ℕ-discrete c d) (ℕ-discrete k j)));
     chain = λ c k cn ok h. rw e (i .chain c k cn (rw e at ok) (rw e at h));
   }
     where

@@ -1,12 +1,14 @@
 -- Where logs begin: no store writes a header, and an entry means the same on replicas whose logs begin at one index.
 use Prim.Native.Nat.{ℕ, suc, _+_, _<_}
 use mathlib.Core.Path.{_≡_, refl, sym, ap, _∙_}
+use mathlib.Core.Bool.{false}
 use Rattle.search.proofs.UpdateLaws.{put-case}
 use Rattle.slices.specs.Parts.{Bytes, part}
 use Rattle.record.specs.declared.Shape.{Shape}
+use Rattle.record.specs.Layout.{isWitness}
 use Rattle.record.specs.Meaning.{firstIndex, good, blank, broken, readEntry}
 use Rattle.image.specs.Image.{Image, index, entryAt}
-use Rattle.image.specs.View.{viewOf}
+use Rattle.image.specs.View.{viewOf, seenAs}
 use Rattle.image.specs.SetSlot.{setRecord, setEntry}
 use Rattle.image.specs.Cluster.{Cluster, imageAt, imagePart, firstAt, decode}
 use Rattle.image.proofs.DecodeLaws.{first-is}
@@ -21,9 +23,9 @@ use Rattle.protocol.proofs.Keeps.{Target}
 use Rattle.protocol.proofs.Reach.{Torn, torn, Reach, reach-keeps}
 
 -- slot k of replica d, read as one of c whose log begins there too
-pub entry-as : (Z : Shape) (b : Bytes) (c d k : ℕ) → firstAt Z b c ≡ firstAt Z b d → k < Z .m
+pub entry-as : (Z : Shape) (b : Bytes) (c d k : ℕ) → firstAt Z b c ≡ firstAt Z b d → isWitness Z (suc d) ≡ false → k < Z .m
     → decode Z b d .entries k ≡ readEntry (index (firstAt Z b c) k) (part b (imageAt Z d + entryAt Z k) 240)
-entry-as Z b c d k one h = entry-means Z b d k h ∙ ap (λ (z : ℕ). readEntry (index z k) (part b (imageAt Z d + entryAt Z k) 240)) (sym one)
+entry-as Z b c d k one card h = entry-means Z b d k card h ∙ ap (λ (z : ℕ). readEntry (index z k) (part b (imageAt Z d + entryAt Z k) 240)) (sym one)
 
 -- of a plan that is ready: where a readable replica's log begins
 pub target-first : (S : Setting) (b : Bytes) → ReadyPlan S (viewsOf S (decode (S .shape) b)) → (c : ℕ) → Target S (decode (S .shape) b) c
@@ -50,7 +52,7 @@ reach-header S F r =
 
 -- so every log begins where it began
 pub stored-first : (S : Setting) (s : Store) (F : Cluster) (c : ℕ) → viewsOf S (afterStore s F) c .first ≡ viewsOf S F c .first
-unfolding viewsOf viewOf
+unfolding viewsOf seenAs viewOf
 stored-first S s F c = ap firstIndex (stored-header s F c)
 
 pub first-means : (Z : Shape) (b : Bytes) (c : ℕ) → firstAt Z b c ≡ firstIndex (decode Z b c .header)

@@ -13,8 +13,7 @@ use Rattle.search.proofs.CountLaws.{count-cong, count-lt, count-suc}
 use Rattle.image.specs.View.{View, Condition}
 use Rattle.planner.specs.Setting.{Setting}
 use Rattle.protocol.specs.Recovery.{differs, firstDiffering}
-use Rattle.protocol.proofs.Effects.{Blanked, Mended, Appended}
-use Rattle.protocol.proofs.Moves.{isComplete}
+use Rattle.protocol.proofs.Effects.{isComplete, Blanked, Mended, Appended}
 use Rattle.protocol.proofs.Work.{incomplete, credit, followerWork}
 
 differing-off : (S : Setting) (W U : ℕ → View) (c : ℕ) → U c ≡ W c → U (S .leader) ≡ W (S .leader) → firstDiffering S U c ≡ firstDiffering S W c
@@ -86,5 +85,5 @@ module _ (S : Setting) (W U : ℕ → View) (c : ℕ) (here : U (S .leader) ≡ 
   appended-work v t full h =
       let l = W c .length in
       let n : count (incomplete (U c)) (suc l) ≡ count (incomplete (W c)) l =
-      count-suc (incomplete (U c)) l ∙ rw (t .whole) (rw zero-add (count-cong (incomplete (U c)) (incomplete (W c)) l (λ k b. ap (λ (d : Condition). not (isComplete d)) (t .conditions k b)))) in
+      count-suc (incomplete (U c)) l ∙ rw (t .complete) (rw zero-add (count-cong (incomplete (U c)) (incomplete (W c)) l (λ k b. ap (λ (d : Condition). not (isComplete d)) (t .conditions k b)))) in
       rw (appended-differing t full h, t .is, here, full, le-ltb l l (omega arith), lt-ltb l (W (S .leader) .length) h, n) (omega arith)

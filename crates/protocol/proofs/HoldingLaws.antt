@@ -13,9 +13,9 @@ use Rattle.slices.specs.Parts.{Bytes}
 use Rattle.slices.proofs.SameLaws.{and-off}
 use Rattle.record.specs.Meaning.{Record, good, blank, bad, Entry, intact, broken}
 use Rattle.image.specs.Cluster.{Cluster}
-use Rattle.image.specs.View.{View, Whole, Faulty, condition, conditionAt, isBlank, viewOf}
+use Rattle.image.specs.View.{View, Condition, Unused, Whole, RecordLost, Faulty, Lost, RecordOnly, condition, conditionAt, isBlank, viewOf, conditionAs, seenAs}
 use Rattle.image.proofs.ViewLaws.{used-below}
-use Rattle.planner.specs.Setting.{Setting, viewsOf}
+use Rattle.planner.specs.Setting.{Setting, witness, viewsOf}
 use Rattle.planner.specs.Rules.{majority, isUsed, answers, agrees, dontHave}
 use Rattle.protocol.specs.Recovery.{differs, firstDiffering}
 use Rattle.protocol.proofs.Consistency.{Consistent}
@@ -26,9 +26,19 @@ pub record Holding (k e : ℕ) (a : View) : Type 0 where
   pub within : k < a .length
   pub epoch : a .epoch k ≡ e
 
+used-as : (w : Bool) (d : Condition) → isUsed d ≡ true → isUsed (conditionAs w d) ≡ true
+unfolding conditionAs isUsed
+used-as true Unused h = h
+used-as true Whole h = refl
+used-as true RecordLost h = refl
+used-as true Faulty h = refl
+used-as true Lost h = refl
+used-as true RecordOnly h = refl
+used-as false d h = h
+
 used-condition : (S : Setting) (F : Cluster) (c j : ℕ) → j < viewsOf S F c .length → isUsed (viewsOf S F c .condition j) ≡ true
-unfolding viewsOf viewOf conditionAt condition isBlank isUsed
-used-condition S F c j h = go (F c .records j) (F c .entries j) (used-below (S .shape .m) (F c) j h)
+unfolding viewsOf seenAs viewOf conditionAt condition isBlank isUsed
+used-condition S F c j h = used-as (witness S c) (conditionAt (F c) j) (go (F c .records j) (F c .entries j) (used-below (S .shape .m) (F c) j h))
   where
     go : (r : Record) (x : Entry) → isBlank r ≡ false → isUsed (condition r x) ≡ true
     go (good e) (intact f p) b = at (eqb e f)

@@ -1,6 +1,6 @@
 -- What a store that was due leaves alone: replicas that are away or unreadable, and intact entries; and where each entry comes from.
-use mathlib.Core.Path.{_≡_, refl, sym}
-use mathlib.Core.Bool.{true, true≢false}
+use mathlib.Core.Path.{_≡_, refl, sym, ap, _∙_}
+use mathlib.Core.Bool.{true, false, true≢false}
 use Prim.Native.Nat.{ℕ, _≤_, _<_}
 use native.Mathlib.Omega.{arith}
 use native.Mathlib.Decide.{ℕ-discrete}
@@ -11,18 +11,18 @@ use Rattle.slices.specs.Parts.{Bytes}
 use Rattle.record.specs.Meaning.{Record, good, blank, bad, Entry, intact, broken}
 use Rattle.image.specs.Cluster.{Cluster}
 use Rattle.image.specs.SetSlot.{setEntry, setRecord}
-use Rattle.image.specs.View.{condition, epochOf, conditionAt, epochAt, viewOf}
+use Rattle.image.specs.View.{condition, epochOf, conditionAt, epochAt, viewOf, conditionAs, seenAs}
 use Rattle.image.proofs.StoreLaws.{entry-off}
-use Rattle.planner.specs.Setting.{Setting, viewsOf}
-use Rattle.planner.specs.Rules.{isFaulty, isRecordLost}
+use Rattle.planner.specs.Setting.{Setting, witness, viewsOf}
+use Rattle.planner.specs.Rules.{isFaulty, isRecordLost, donor}
 use Rattle.protocol.specs.Store.{Store, storeEntry, storeRecord, storeBlank, storeReplica, storeSlot}
 use Rattle.protocol.specs.ClusterSteps.{afterStore}
-use Rattle.protocol.proofs.Effects.{IntactAt, whole-intact, lost-whole}
+use Rattle.protocol.proofs.Effects.{IntactAt, whole-intact, lost-whole, faulty-card, lost-card, whole-card}
 use Rattle.protocol.proofs.ReadyPlan.{ReadyPlan}
 use Rattle.protocol.proofs.LeaderDue.{LeaderDue, leader-blank, leader-fetch, leader-write}
 use Rattle.protocol.proofs.FollowerDue.{FollowerDue, follower-blank, follower-mend, follower-write, follower-fill, follower-append}
 use Rattle.protocol.proofs.Due.{Due, by-leader, by-follower}
-use Rattle.protocol.proofs.Slots.{answers-readable, fetch-facts, leader-fits, leader-entry}
+use Rattle.protocol.proofs.Slots.{answers-readable, Donated, fetch-facts, leader-fits, leader-entry, unlike-card}
 use Rattle.protocol.proofs.Reach.{Torn, torn}
 
 pub stored-off : (s : Store) (F : Cluster) (c : ℕ) → (c ≡ storeReplica s → ⊥) → afterStore s F c ≡ F c
@@ -88,8 +88,8 @@ not-faulty (bad b) (intact f p) q h y = true≢false (sym y)
 not-faulty (bad b) (broken d) q h y = true≢false (sym y)
 
 no-hole : (S : Setting) (F : Cluster) (c k : ℕ) (q : Bytes) → k < viewsOf S F c .length → F c .entries k ≡ intact (viewsOf S F c .epoch k) q → Hole S F c k → ⊥
-unfolding viewsOf viewOf conditionAt epochAt
-no-hole S F c k q h e (faulty y) = not-faulty (F c .records k) (F c .entries k) q e y
+unfolding viewsOf seenAs viewOf conditionAt epochAt
+no-hole S F c k q h e (faulty y) = not-faulty (F c .records k) (F c .entries k) q e (ap isFaulty (sym (faulty-card (witness S c) (conditionAt (F c) k) y .same)) ∙ y)
 no-hole S F c k q h e (behind y) = omega arith
 
 copy-entries : (F : Cluster) (c k : ℕ) (x : Entry) (d j : ℕ) → ((d ≡ c) → j ≡ k → ⊥) → put F c (setEntry (F c) k x) d .entries j ≡ F d .entries j
@@ -151,21 +151,46 @@ pub due-donor : (S : Setting) (F : Cluster) (c k d : ℕ) → S .leader < S .sha
 due-donor S F c k d n r (by-leader e u) = leader-donor S F c k d u
 due-donor S F c k d n r (by-follower e f u) = follower-donor S F c k d n r u
 
-pub record SomeEntry (F : Cluster) (k e : ℕ) : Type 0 where
+-- entries are copied from card to card
+pub record Cards (S : Setting) (c d : ℕ) : Type 0 where
+  pub to : witness S c ≡ false
+  pub from : witness S d ≡ false
+
+faulty-slot : (S : Setting) (F : Cluster) (c k : ℕ) → isFaulty (viewsOf S F c .condition k) ≡ true → witness S c ≡ false
+unfolding viewsOf seenAs
+faulty-slot S F c k h = faulty-card (witness S c) _ h .card
+
+pub donor-card : (S : Setting) (F : Cluster) (k : ℕ) → Donated S (viewsOf S F) k → witness S (donor S (viewsOf S F) k) ≡ false
+unfolding viewsOf seenAs
+donor-card S F k d = whole-card (witness S (donor S (viewsOf S F) k)) _ (d .whole) .card
+
+leader-cards : (S : Setting) (F : Cluster) (c k d : ℕ) → ReadyPlan S (viewsOf S F) → LeaderDue S F (storeEntry c k d) → Cards S c d
+leader-cards S F c k d r (leader-fetch j h full e) = record { to = r .card; from = donor-card S F k (fetch-facts S (viewsOf S F) k e) }
+
+follower-cards : (S : Setting) (F : Cluster) (c k d : ℕ) → ReadyPlan S (viewsOf S F) → FollowerDue S F (storeEntry c k d) → Cards S c d
+follower-cards S F c k d r (follower-mend c′ ld cn an full j h e) = record { to = faulty-slot S F c k e; from = r .card }
+follower-cards S F c k d r (follower-fill c′ ld cn an full h e) = record { to = unlike-card S F c e; from = r .card }
+
+pub due-cards : (S : Setting) (F : Cluster) (c k d : ℕ) → ReadyPlan S (viewsOf S F) → Due S F (storeEntry c k d) → Cards S c d
+due-cards S F c k d r (by-leader e u) = leader-cards S F c k d r u
+due-cards S F c k d r (by-follower e f u) = follower-cards S F c k d r u
+
+pub record SomeEntry (S : Setting) (F : Cluster) (k e : ℕ) : Type 0 where
   pub from : ℕ
+  pub card : witness S from ≡ false
   pub there : IntactAt e (F from .entries k)
 
-lost-entry : (S : Setting) (F : Cluster) (c k : ℕ) → isRecordLost (viewsOf S F c .condition k) ≡ true → SomeEntry F k (viewsOf S F c .epoch k)
-unfolding viewsOf viewOf conditionAt epochAt
-lost-entry S F c k h = record { from = c; there = whole-intact (F c .records k) (F c .entries k) (lost-whole (condition (F c .records k) (F c .entries k)) h) }
+lost-entry : (S : Setting) (F : Cluster) (c k : ℕ) → isRecordLost (viewsOf S F c .condition k) ≡ true → SomeEntry S F k (viewsOf S F c .epoch k)
+unfolding viewsOf seenAs viewOf conditionAt epochAt
+lost-entry S F c k h = record { from = c; card = lost-card (witness S c) (conditionAt (F c) k) h .card; there = whole-intact (F c .records k) (F c .entries k) (lost-whole (condition (F c .records k) (F c .entries k)) (ap isRecordLost (sym (lost-card (witness S c) (conditionAt (F c) k) h .same)) ∙ h)) }
 
-leader-epoch : (S : Setting) (F : Cluster) (c k e : ℕ) → LeaderDue S F (storeRecord c k e) → SomeEntry F k e
+leader-epoch : (S : Setting) (F : Cluster) (c k e : ℕ) → LeaderDue S F (storeRecord c k e) → SomeEntry S F k e
 leader-epoch S F c k e (leader-write j h full x) = lost-entry S F (S .leader) k x
 
-follower-epoch : (S : Setting) (F : Cluster) (c k e : ℕ) → ReadyPlan S (viewsOf S F) → FollowerDue S F (storeRecord c k e) → SomeEntry F k e
+follower-epoch : (S : Setting) (F : Cluster) (c k e : ℕ) → ReadyPlan S (viewsOf S F) → FollowerDue S F (storeRecord c k e) → SomeEntry S F k e
 follower-epoch S F c k e r (follower-write c′ ld cn an full j h x) = lost-entry S F c k x
-follower-epoch S F c k e r (follower-append c′ ld cn an full h x) = record { from = S .leader; there = leader-entry S F (r .leader) ld k h }
+follower-epoch S F c k e r (follower-append c′ ld cn an full h x) = record { from = S .leader; card = r .card; there = leader-entry S F (r .card) (r .leader) ld k h }
 
-pub due-epoch : (S : Setting) (F : Cluster) (c k e : ℕ) → ReadyPlan S (viewsOf S F) → Due S F (storeRecord c k e) → SomeEntry F k e
+pub due-epoch : (S : Setting) (F : Cluster) (c k e : ℕ) → ReadyPlan S (viewsOf S F) → Due S F (storeRecord c k e) → SomeEntry S F k e
 due-epoch S F c k e r (by-leader x u) = leader-epoch S F c k e u
 due-epoch S F c k e r (by-follower x f u) = follower-epoch S F c k e r u

@@ -8,12 +8,11 @@ use Rattle.search.specs.Search.{count}
 use Rattle.search.proofs.CountLaws.{sum-lt, count-cong, count-lt, count-none}
 use Rattle.image.specs.Cluster.{Cluster}
 use Rattle.image.specs.View.{Condition}
-use Rattle.planner.specs.Setting.{Setting, viewsOf}
+use Rattle.planner.specs.Setting.{Setting, witness, viewsOf}
 use Rattle.planner.specs.Rules.{end}
-use Rattle.protocol.proofs.Effects.{Blanked, Mended}
 use Rattle.protocol.proofs.LeaderDue.{LeaderDone}
 use Rattle.protocol.proofs.Slots.{leader-whole}
-use Rattle.protocol.proofs.Moves.{isComplete}
+use Rattle.protocol.proofs.Effects.{isComplete, Blanked, Mended}
 use Rattle.protocol.proofs.Work.{incomplete, leaderWork, weight, work, weight-bound, weight-leader, weight-busy}
 
 pub leader-falls : (S : Setting) (F G : Cluster) → S .leader < S .shape .n → leaderWork S (viewsOf S G) < leaderWork S (viewsOf S F) → work S G < work S F
@@ -40,9 +39,9 @@ mended-falls S F G k t h u e =
     count-lt (incomplete (viewsOf S G (S .leader))) (incomplete (viewsOf S F (S .leader))) (end S (viewsOf S F)) k h (λ j q. ap (λ (d : Condition). not (isComplete d)) (t .conditions j q)) (rw (t .whole)) (rw u) in
     rw (e, t .lengths) (omega arith)
 
-pub leader-idle : (S : Setting) (F : Cluster) → viewsOf S F (S .leader) .readable ≡ true → LeaderDone S (viewsOf S F) → leaderWork S (viewsOf S F) ≡ 0
+pub leader-idle : (S : Setting) (F : Cluster) → witness S (S .leader) ≡ false → viewsOf S F (S .leader) .readable ≡ true → LeaderDone S (viewsOf S F) → leaderWork S (viewsOf S F) ≡ 0
 unfolding leaderWork incomplete isComplete
-leader-idle S F ok d =
+leader-idle S F card ok d =
     let z : count (incomplete (viewsOf S F (S .leader))) (end S (viewsOf S F)) ≡ 0 =
-    count-none (incomplete (viewsOf S F (S .leader))) (end S (viewsOf S F)) (λ k h. rw (leader-whole S F ok d k (omega (arith, d .untruncated, h)))) in
+    count-none (incomplete (viewsOf S F (S .leader))) (end S (viewsOf S F)) (λ k h. rw (leader-whole S F card ok d k (omega (arith, d .untruncated, h)))) in
     omega (arith, d .untruncated, z)

@@ -32,13 +32,13 @@ follower-falls S F G c r ld cn an off h =
     other = answers-other S (viewsOf S F) c an
 
     idle : leaderWork S (viewsOf S F) ≡ 0
-    idle = leader-idle S F (r .leader) ld
+    idle = leader-idle S F (r .card) (r .leader) ld
 
     here : viewsOf S G (S .leader) ≡ viewsOf S F (S .leader)
     here = off-views S F G c off (S .leader) (λ q. other (sym q))
 
     idle′ : leaderWork S (viewsOf S G) ≡ 0
-    idle′ = leader-idle S G (rw here (r .leader)) (follower-done S (viewsOf S F) (viewsOf S G) here ld)
+    idle′ = leader-idle S G (r .card) (rw here (r .leader)) (follower-done S (viewsOf S F) (viewsOf S G) here ld)
 
     go : (d : ℕ) → Dec (d ≡ S .leader) → Dec (d ≡ c) → weight S G d ≤ weight S F d
     go d (yes q) e = rw (q, weight-leader S F, weight-leader S G) (omega (arith, idle, idle′))

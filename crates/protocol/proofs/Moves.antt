@@ -1,6 +1,6 @@
 -- The store that is due, made: how the views change (`moved`).
 use mathlib.Core.Path.{_≡_, refl, sym, ap, _∙_}
-use mathlib.Core.Bool.{Bool, true, false}
+use mathlib.Core.Bool.{Bool, true, false, or-true}
 use Prim.Native.Nat.{ℕ, _≤_, _<_}
 use native.Mathlib.Omega.{arith}
 use Rattle.search.specs.Put.{put}
@@ -10,28 +10,21 @@ use Rattle.record.specs.Meaning.{good, blank, Entry, intact}
 use Rattle.image.specs.Image.{Image}
 use Rattle.image.specs.SetSlot.{setRecord, setEntry}
 use Rattle.image.specs.Cluster.{Cluster}
-use Rattle.image.specs.View.{View, Condition, Unused, Whole, RecordLost, Faulty, Lost, condition}
+use Rattle.image.specs.View.{View, Condition, Unused, Whole, RecordLost, Faulty, Lost, RecordOnly, condition, viewOf, conditionAt, seenAs}
 use Rattle.image.proofs.StoreLaws.{entry-at, entry-off, record-off}
-use Rattle.planner.specs.Setting.{Setting, viewsOf}
+use Rattle.planner.specs.Setting.{Setting, witness, viewsOf}
 use Rattle.planner.specs.Rules.{isFaulty, isRecordLost, answers, Keep, isTruncate, isWait, rule, donor, end}
 use Rattle.protocol.specs.Store.{Store}
 use Rattle.protocol.specs.ClusterSteps.{afterStore}
 use Rattle.protocol.specs.Recovery.{firstDiffering, unlike}
-use Rattle.protocol.proofs.Effects.{view, Blanked, Mended, Appended, blank-effect, mend-effect, write-effect, append-effect, fill-effect}
+use Rattle.protocol.proofs.Effects.{view, isComplete, faulty-card, Blanked, Mended, Appended, blank-effect, mend-effect, write-effect, append-effect, fill-effect}
 use Rattle.protocol.proofs.ReadyPlan.{ReadyPlan}
 use Rattle.protocol.proofs.LeaderDue.{LeaderDone, LeaderDue, leader-blank, leader-fetch, leader-write}
 use Rattle.protocol.proofs.FollowerDue.{FollowerDue, follower-blank, follower-mend, follower-write, follower-fill, follower-append}
 use Rattle.protocol.proofs.Due.{Due, by-leader, by-follower}
-use Rattle.protocol.proofs.Slots.{entry-refl, answers-readable, answers-other, below-differing, leader-entry, fetch-facts, donor-entry, like-entry, leader-fits, append-up}
+use Rattle.protocol.proofs.Slots.{entry-refl, answers-readable, answers-other, below-differing, leader-entry, fetch-facts, donor-entry, leader-fits, append-up, append-complete}
 
 -- ---- a store made: one replica changes, and how
-unfoldable pub isComplete : Condition → Bool
-isComplete Unused = false
-isComplete Whole = true
-isComplete RecordLost = false
-isComplete Faulty = false
-isComplete Lost = false
-
 abbrev pub Off : ℕ → Cluster → Cluster → Type 0
 Off c F G = (d : ℕ) → (d ≡ c → ⊥) → G d ≡ F d
 
@@ -59,6 +52,7 @@ faulty-incomplete Whole h = sym h
 faulty-incomplete RecordLost h = refl
 faulty-incomplete Faulty h = refl
 faulty-incomplete Lost h = refl
+faulty-incomplete RecordOnly h = sym h
 
 lost-incomplete : (d : Condition) → isRecordLost d ≡ true → isComplete d ≡ false
 unfolding isRecordLost isComplete
@@ -67,6 +61,7 @@ lost-incomplete Whole h = sym h
 lost-incomplete RecordLost h = refl
 lost-incomplete Faulty h = refl
 lost-incomplete Lost h = refl
+lost-incomplete RecordOnly h = sym h
 
 -- a slot whose record alone is lost is kept
 lost-keep : (S : Setting) (W : ℕ → View) (k : ℕ) → isRecordLost (W (S .leader) .condition k) ≡ true → rule S W k ≡ Keep
@@ -79,10 +74,11 @@ lost-keep S W k h = rw (not-faulty (W (S .leader) .condition k) h)
     not-faulty RecordLost h = refl
     not-faulty Faulty h = sym h
     not-faulty Lost h = refl
+    not-faulty RecordOnly h = refl
 
 pub unlike-same : (S : Setting) (F : Cluster) (c : ℕ) (i : Image) → answers S (viewsOf S F) c ≡ true → view S c i .length ≡ view S c (F c) .length
     → i .entries (view S c (F c) .length) ≡ F c .entries (view S c (F c) .length) → unlike S (put F c i) c ≡ unlike S F c
-unfolding unlike viewsOf
+unfolding unlike viewsOf seenAs
 unlike-same S F c i an l e = rw (put-other F c i (S .leader) (λ q. answers-other S (viewsOf S F) c an (sym q)), put-same, l, e)
 
 filled : (S : Setting) (F : Cluster) (c : ℕ) → ReadyPlan S (viewsOf S F) → LeaderDone S (viewsOf S F) → c < S .shape .n → answers S (viewsOf S F) c ≡ true
@@ -91,7 +87,7 @@ filled : (S : Setting) (F : Cluster) (c : ℕ) → ReadyPlan S (viewsOf S F) →
 unfolding viewsOf unlike
 filled S F c r ld cn an full h e =
     follower-filled c ld cn an (λ d q. put-other F c i d q) (rw put-same same) full h e
-    (rw (put-other F c i (S .leader) (λ q. answers-other S (viewsOf S F) c an (sym q)), put-same, same, entry-at (F c) l x, entry-refl x))
+    (rw (put-other F c i (S .leader) (λ q. answers-other S (viewsOf S F) c an (sym q)), put-same, same, entry-at (F c) l x, entry-refl x, or-true))
   where
     l : ℕ
     l = viewsOf S F c .length
@@ -110,9 +106,8 @@ appended : (S : Setting) (F : Cluster) (c : ℕ) → ReadyPlan S (viewsOf S F) �
     → Move S F (put F c (setRecord (F c) (viewsOf S F c .length) (good (viewsOf S F (S .leader) .epoch (viewsOf S F c .length)))))
 unfolding viewsOf
 appended S F c r ld cn an full h e =
-    let y = leader-entry S F (r .leader) ld l h in
     follower-appended c ld cn an (λ d q. put-other F c (setRecord (F c) l (good v)) d q)
-    (rw put-same (append-effect S c (F c) (answers-readable S (viewsOf S F) c an) v (y .payload) (omega (arith, leader-fits S F (S .leader), h)) (like-entry S F c e ∙ y .is) (append-up S F c r ld full h)))
+    (rw put-same (append-effect S c (F c) (answers-readable S (viewsOf S F) c an) v (omega (arith, leader-fits S F (S .leader), h)) (append-complete S F c r ld h e) (append-up S F c r ld full h)))
     full h e
   where
     l : ℕ
@@ -142,7 +137,7 @@ follower-moved S F s r (follower-blank c ld cn an l h e) =
     follower-blanked c l ld cn an (λ d q. put-other F c (setRecord (F c) l blank) d q) (rw put-same (blank-effect S c (F c) (answers-readable S (viewsOf S F) c an) l h)) e
 follower-moved S F s r (follower-mend c ld cn an full k h e) =
     let b = below-differing S (viewsOf S F) c k h in
-    let y = leader-entry S F (r .leader) ld k (b .within) in
+    let y = leader-entry S F (r .card) (r .leader) ld k (b .within) in
     let z : F (S .leader) .entries k ≡ intact (viewsOf S F c .epoch k) (y .payload) = y .is ∙ ap (λ (v : ℕ). intact v (y .payload)) (sym (b .epochs)) in
     let t = mend-effect S c (F c) (answers-readable S (viewsOf S F) c an) k (y .payload) e in
     follower-mended c k ld cn an (λ j q. put-other F c (setEntry (F c) k (F (S .leader) .entries k)) j q)

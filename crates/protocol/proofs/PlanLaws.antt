@@ -12,7 +12,7 @@ use Rattle.image.specs.Cluster.{Cluster}
 use Rattle.image.specs.View.{View}
 use Rattle.image.specs.Read.{isWhole}
 use Rattle.planner.specs.Setting.{Setting, viewsOf}
-use Rattle.planner.specs.Rules.{isFaulty, answers, agrees, have, dontHave, Keep, isTruncate, isWait, rule, donor, end, firstWaiting, answer, Ready}
+use Rattle.planner.specs.Rules.{mayLead, isFaulty, answers, agrees, have, dontHave, Keep, isTruncate, isWait, rule, donor, end, firstWaiting, answer, Ready}
 use Rattle.protocol.proofs.Effects.{view, Blanked, Mended}
 use Rattle.protocol.proofs.ReadyPlan.{ReadyPlan, firsts-same}
 use Rattle.protocol.proofs.LeaderDue.{LeaderDone}
@@ -62,10 +62,10 @@ module _ (S : Setting) (W U : ℕ → View) (off : (c : ℕ) → (c ≡ S .leade
 
 -- ---- ready plans
 pub ready-intro : (S : Setting) (W : ℕ → View) → ReadyPlan S W → answer S W ≡ Ready (end S W)
-unfolding answer firstWaiting
+unfolding answer firstWaiting mayLead
 ready-intro S W r =
     let z : lowest (λ k. isWait (rule S W k)) (end S W) ≡ end S W = lowest-is (λ k. isWait (rule S W k)) (end S W) (end S W) (omega arith) (r .unstuck) (λ h. absurd (omega arith)) in
-    rw (r .leader, r .firsts, le-ltb (firstWaiting S W) (end S W) (omega arith))
+    rw (r .leader, r .card, r .firsts, le-ltb (firstWaiting S W) (end S W) (omega arith))
 
 pub rule-keep-unfaulty : (S : Setting) (W : ℕ → View) (k : ℕ) → isFaulty (W (S .leader) .condition k) ≡ false → rule S W k ≡ Keep
 unfolding rule
@@ -106,7 +106,7 @@ blanked-plan : (S : Setting) (F G : Cluster) (l : ℕ) → ReadyPlan S (viewsOf 
 unfolding end
 blanked-plan S F G l r off t h =
     record {
-      plan = record { leader = t .readable; firsts = firsts-same S W U reads begins ∙ r .firsts; unstuck = λ k b. ap isWait (same k (omega (arith, ends, b))) ∙ r .unstuck k (omega (arith, ends, b)) };
+      plan = record { leader = t .readable; card = r .card; firsts = firsts-same S W U reads begins ∙ r .firsts; unstuck = λ k b. ap isWait (same k (omega (arith, ends, b))) ∙ r .unstuck k (omega (arith, ends, b)) };
       ends = ends;
       readables = reads;
       firsts = begins;
@@ -140,7 +140,7 @@ mended-plan : (S : Setting) (F G : Cluster) (k : ℕ) → ReadyPlan S (viewsOf S
 unfolding end isTruncate isWait isFaulty
 mended-plan S F G k r off t x y =
     record {
-      plan = record { leader = t .readable; firsts = firsts-same S W U reads begins ∙ r .firsts; unstuck = λ j b. waits j ∙ r .unstuck j (omega (arith, ends, b)) };
+      plan = record { leader = t .readable; card = r .card; firsts = firsts-same S W U reads begins ∙ r .firsts; unstuck = λ j b. waits j ∙ r .unstuck j (omega (arith, ends, b)) };
       ends = ends;
       readables = reads;
       firsts = begins;
@@ -199,7 +199,7 @@ unfolding isWait
 follower-plan S F G c r ld an off ok first =
     let d = follower-done S (viewsOf S F) (viewsOf S G) here ld in
     record {
-      plan = record { leader = rw here (r .leader); firsts = firsts-same S (viewsOf S F) (viewsOf S G) reads begins ∙ r .firsts; unstuck = λ k h. ap isWait (rule-keep-unfaulty S (viewsOf S G) k (d .unfaulty k (omega (arith, d .untruncated, h)))) };
+      plan = record { leader = rw here (r .leader); card = r .card; firsts = firsts-same S (viewsOf S F) (viewsOf S G) reads begins ∙ r .firsts; unstuck = λ k h. ap isWait (rule-keep-unfaulty S (viewsOf S G) k (d .unfaulty k (omega (arith, d .untruncated, h)))) };
       ends = d .untruncated ∙ ap (λ (a : View). a .length) here ∙ sym (ld .untruncated);
       readables = reads;
       firsts = begins;

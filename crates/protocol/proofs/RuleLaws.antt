@@ -8,7 +8,7 @@ use Rattle.search.specs.Search.{lowest, count}
 use Rattle.search.proofs.SearchLaws.{lowest-is, lowest-le-passing}
 use Rattle.image.specs.View.{View}
 use Rattle.planner.specs.Setting.{Setting}
-use Rattle.planner.specs.Rules.{mayTruncate, isFaulty, have, dontHave, donor, rule, Fetch, Truncate, Wait, isTruncate, isWait, answer, Waiting, firstWaiting, end, sameFirsts}
+use Rattle.planner.specs.Rules.{mayTruncate, isFaulty, have, dontHave, donor, rule, Fetch, Truncate, Wait, isTruncate, isWait, answer, Waiting, firstWaiting, end, mayLead, sameFirsts}
 
 -- a copy within reach is fetched
 pub fetches : (S : Setting) (W : ℕ → View) (k c : ℕ) → c < S .shape .n → have S W k c ≡ true → isFaulty (W (S .leader) .condition k) ≡ true → rule S W k ≡ Fetch
@@ -29,7 +29,7 @@ waits S W k no-have f t =
     go true t = sym t
     go false t = refl
 
-pub stops : (S : Setting) (W : ℕ → View) (k : ℕ) → W (S .leader) .readable ≡ true → sameFirsts S W ≡ true → k < end S W → isWait (rule S W k) ≡ true → answer S W ≡ Waiting (firstWaiting S W)
+pub stops : (S : Setting) (W : ℕ → View) (k : ℕ) → mayLead S W ≡ true → sameFirsts S W ≡ true → k < end S W → isWait (rule S W k) ≡ true → answer S W ≡ Waiting (firstWaiting S W)
 unfolding answer firstWaiting
 stops S W k ok one h w =
     let b = lowest-le-passing (λ j. isWait (rule S W j)) (end S W) k h w in

@@ -27,7 +27,7 @@ use Rattle.protocol.specs.StepBytes.{afterStoreBytes, nextIn, stepsBytes
 use Rattle.protocol.proofs.FirstLaws.{entry-as, target-first, first-means, stored-header}
 use Rattle.protocol.proofs.ReadyPlan.{ReadyPlan}
 use Rattle.protocol.proofs.Due.{Due, due-facts}
-use Rattle.protocol.proofs.Keeps.{SomeEntry, due-target, due-slot, due-donor, due-epoch}
+use Rattle.protocol.proofs.Keeps.{SomeEntry, due-cards, due-target, due-slot, due-donor, due-epoch}
 use Rattle.protocol.proofs.Reach as reach
 
 module _ (S : Setting) where
@@ -39,8 +39,8 @@ module _ (S : Setting) where
     pub is : decode shape b ≡ F
 
   -- a record is written only with the epoch of an intact entry
-  epoch-in-range : (b : Bytes) (k e : ℕ) → k < shape .m → SomeEntry (decode shape b) k e → isEpoch e ≡ true
-  epoch-in-range b k e h x = intact-for (index (firstAt shape b (x .from)) k) (part b (imageAt shape (x .from) + entryAt shape k) 240) e (x .there .payload) (sym (entry-means shape b (x .from) k h) ∙ x .there .is) .epoch
+  epoch-in-range : (b : Bytes) (k e : ℕ) → k < shape .m → SomeEntry S (decode shape b) k e → isEpoch e ≡ true
+  epoch-in-range b k e h x = intact-for (index (firstAt shape b (x .from)) k) (part b (imageAt shape (x .from) + entryAt shape k) 240) e (x .there .payload) (sym (entry-means shape b (x .from) k (x .card) h) ∙ x .there .is) .epoch
 
   -- it is written for its own slot's index
   record-stored : (b : Bytes) → length b ≡ imageAt shape (shape .n) → (c k e i : ℕ) → c < shape .n → k < shape .m → isEpoch e ≡ true → i ≡ index (firstAt shape b c) k
@@ -63,11 +63,12 @@ module _ (S : Setting) where
         let km = due-slot S (decode shape b) (storeEntry c k d) u in
         let dt = due-donor S (decode shape b) c k d low r u in
         let one : firstAt shape b c ≡ firstAt shape b d = target-first S b r c ct ∙ sym (target-first S b r d dt) in
+        let both = due-cards S (decode shape b) c k d r u in
         let v = part b (imageAt shape d + entryAt shape k) 240 in
-        let l : length v ≡ 240 = length-part b (imageAt shape d + entryAt shape k) 240 (omega (arith, image-fits shape (shape .n) d (dt .below), entry-fits shape (suc d) k km)) in
+        let l : length v ≡ 240 = length-part b (imageAt shape d + entryAt shape k) 240 (omega (arith, image-fits shape (shape .n) d (dt .below), entry-fits shape (suc d) k (both .from) km)) in
         record {
-          size = length-in-image shape b size c cn (entryAt shape k) v (omega (arith, entry-fits shape (suc c) k km));
-          is = entry-put shape b size c k v cn km l ∙ ap (λ (x : Entry). put (decode shape b) c (setEntry (decode shape b c) k x)) (sym (entry-as shape b c d k one km));
+          size = length-in-image shape b size c cn (entryAt shape k) v (omega (arith, entry-fits shape (suc c) k (both .to) km));
+          is = entry-put shape b size c k v cn (both .to) km l ∙ ap (λ (x : Entry). put (decode shape b) c (setEntry (decode shape b c) k x)) (sym (entry-as shape b c d k one (both .from) km));
         }
     store-means b size (storeRecord c k e) r u =
         let cn = due-target S (decode shape b) (storeRecord c k e) low r u .below in

@@ -1,6 +1,6 @@
 -- An interrupted store is due again, and made over the torn bytes it leaves what it would have left (`torn-law`).
 use mathlib.Core.Path.{_≡_, sym, ap, _∙_, fun-ext}
-use mathlib.Core.Bool.{true}
+use mathlib.Core.Bool.{true, false}
 use mathlib.Core.Option.{Option, none, some}
 use Prim.Native.Nat.{ℕ}
 use native.Mathlib.Omega.{arith}
@@ -14,7 +14,7 @@ use Rattle.image.specs.SetSlot.{setEntry}
 use Rattle.image.specs.Cluster.{Cluster}
 use Rattle.image.specs.View.{View}
 use Rattle.image.proofs.StoreLaws.{entry-at, entry-off}
-use Rattle.planner.specs.Setting.{Setting, viewsOf}
+use Rattle.planner.specs.Setting.{Setting, witness, viewsOf}
 use Rattle.planner.specs.Rules.{answers}
 use Rattle.protocol.specs.Store.{sameEntry, Store, storeEntry}
 use Rattle.protocol.specs.ClusterSteps.{afterStore}
@@ -24,7 +24,7 @@ use Rattle.protocol.proofs.ReadyPlan.{ReadyPlan}
 use Rattle.protocol.proofs.LeaderDue.{LeaderDue, leader-fetch}
 use Rattle.protocol.proofs.FollowerDue.{FollowerDue, follower-mend, follower-fill}
 use Rattle.protocol.proofs.Due.{Due, by-leader, by-follower, Outstanding, due-facts}
-use Rattle.protocol.proofs.Slots.{answers-readable, answers-other, fetch-facts, leader-entry, leader-fits}
+use Rattle.protocol.proofs.Slots.{answers-readable, answers-other, fetch-facts, leader-entry, leader-fits, unlike-card}
 use Rattle.protocol.proofs.Moves.{unlike-same}
 use Rattle.protocol.proofs.Measure.{unlike-off}
 use Rattle.protocol.proofs.Reach.{Torn, torn}
@@ -92,12 +92,12 @@ leader-tear S F c k d b r e (leader-fetch j h full f) =
 still-unlike : (S : Setting) (F : Cluster) (c : ℕ) (b : Bytes) → answers S (viewsOf S F) c ≡ true
     → viewsOf S (put F c (setEntry (F c) (viewsOf S F c .length) (broken b))) ≡ viewsOf S F
     → IntactAt (viewsOf S F (S .leader) .epoch (viewsOf S F c .length)) (F (S .leader) .entries (viewsOf S F c .length))
-    → unlike S (put F c (setEntry (F c) (viewsOf S F c .length) (broken b))) c ≡ true
+    → witness S c ≡ false → unlike S (put F c (setEntry (F c) (viewsOf S F c .length) (broken b))) c ≡ true
 unfolding unlike sameEntry
-still-unlike S F c b an same y =
+still-unlike S F c b an same y card =
     let k = viewsOf S F c .length in
     let i = setEntry (F c) k (broken b) in
-    rw (same, put-other F c i (S .leader) (λ q. answers-other S (viewsOf S F) c an (sym q)), put-same, entry-at (F c) k (broken b), y .is)
+    rw (same, put-other F c i (S .leader) (λ q. answers-other S (viewsOf S F) c an (sym q)), put-same, entry-at (F c) k (broken b), y .is, card)
 
 follower-tear : (S : Setting) (F : Cluster) (c k d : ℕ) (b : Bytes) → ReadyPlan S (viewsOf S F) → FollowerDue S F (storeEntry c k d) → Tear S F (put F c (setEntry (F c) k (broken b))) (storeEntry c k d)
 unfolding tornImage viewsOf
@@ -119,7 +119,7 @@ follower-tear S F c k d b r (follower-fill c′ ld cn an full h e) =
     let same = tear-views S F c k b one in
     record {
       views-same = same;
-      next-same = follower-next S F (put F c i) same (followers-same S F c k b same other (still-unlike S F c b an same (leader-entry S F (r .leader) ld k h) ∙ sym e));
+      next-same = follower-next S F (put F c i) same (followers-same S F c k b same other (still-unlike S F c b an same (leader-entry S F (r .card) (r .leader) ld k h) (unlike-card S F c e) ∙ sym e));
       stored-same = remade S F c k b d (λ q. other (sym q));
     }
 

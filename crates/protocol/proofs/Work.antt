@@ -15,7 +15,7 @@ use Rattle.planner.specs.Rules.{end}
 use Rattle.planner.proofs.RuleLaws.{end-le}
 use Rattle.protocol.specs.Recovery.{differs, firstDiffering, unlike}
 use Rattle.protocol.proofs.Slots.{leader-fits}
-use Rattle.protocol.proofs.Moves.{isComplete}
+use Rattle.protocol.proofs.Effects.{isComplete}
 
 unfoldable pub incomplete : View → ℕ → Bool
 incomplete a k = not (isComplete (a .condition k))

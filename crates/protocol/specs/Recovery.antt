@@ -1,12 +1,12 @@
 -- Document 01, "Settling": the first store still outstanding.
 use Prim.Native.Nat.{ℕ, pred}
-use mathlib.Core.Bool.{Bool, true, false, cond, not, _&&_}
+use mathlib.Core.Bool.{Bool, true, false, cond, not, _&&_, _||_}
 use mathlib.Core.Option.{Option, none, some}
 use lib.Dec.{eqb, ltb}
 use Rattle.search.specs.Search.{lowest}
 use Rattle.image.specs.View.{View}
 use Rattle.image.specs.Cluster.{Cluster}
-use Rattle.planner.specs.Setting.{Setting, viewsOf}
+use Rattle.planner.specs.Setting.{Setting, witness, viewsOf}
 use Rattle.planner.specs.Rules.{isFaulty, isRecordLost, answers, rule, isFetch, donor, end, Answer, Refused, Waiting, Ready, answer}
 use Rattle.protocol.specs.Store.{Store, storeEntry, storeRecord, storeBlank, sameEntry}
 
@@ -84,9 +84,9 @@ ifReady (Ready k) s = s
 module _ (S : Setting) (F : Cluster) where
   open Setting S using (shape, leader)
 
-  -- the first missing slot of c has another entry than the leader's
+  -- the first missing slot of c has another entry than the leader's; a witness has no entries to get (02, Seven)
   unfoldable pub unlike : ℕ → Bool
-  unlike c = not (sameEntry (F c .entries (viewsOf S F c .length)) (F leader .entries (viewsOf S F c .length)))
+  unlike c = not (witness S c || sameEntry (F c .entries (viewsOf S F c .length)) (F leader .entries (viewsOf S F c .length)))
 
   -- what c has still to get, if it answers
   unfoldable pub due : ℕ → Option Store

@@ -1,11 +1,11 @@
-// Reading for the caller: epochs and verdicts, and the payload of a slot.
+// Reading for the caller: epochs and verdicts, and the payload of a slot; of a witness its epochs.
 ghost use Prim.Native.Nat.{ℕ, _+_, _-_, _<_, _≤_};
 ghost use mathlib.Core.Path.{_≡_};
-ghost use mathlib.Core.Bool.{true};
+ghost use mathlib.Core.Bool.{true, false};
 ghost use lib.ListN.{length, getD, take};
 ghost use Rattle.search.specs.Search.{listed};
 ghost use Rattle.slices.specs.Parts.{part};
-ghost use Rattle.record.specs.Layout.{entrySize};
+ghost use Rattle.record.specs.Layout.{isWitness, entrySize};
 ghost use Rattle.record.specs.Meaning.{Entry, entryPayload};
 ghost use Rattle.record.specs.Judged.{entryAnswer};
 ghost use Rattle.image.specs.Image.{Image, entryAt, decodeUnder};
@@ -16,6 +16,7 @@ ghost use Rattle.image.specs.Verdict.{isFresh, verdictOf};
 ghost use Rattle.image.specs.Scan.{Marked, SpanIn};
 ghost use Rattle.image.specs.Read.{verdictsOf, isWhole, hasPayload, payloadOf, payloadAt};
 ghost use Rattle.image.specs.Answers.{readNumbers, readCallNumbers, epochsLeft, verdictsLeft, payloadNumbers, payloadCallNumbers};
+ghost use Rattle.image.specs.Answers.{witnessCallNumbers, witnessEpochsLeft};
 use image::MAX_SLOTS;
 use image::PayloadAnswer;
 use image::ReadAnswer;
@@ -27,7 +28,8 @@ use record::EntryState;
 use record::Shape;
 use view::entry_state;
 use view::is_whole;
-use view::open_image;
+use view::open_card;
+use view::open_witness;
 
 // Where a payload stands in the image.
 pub struct Span {
@@ -38,7 +40,7 @@ pub struct Span {
 // Whether the entry of slot k is all spaces.
 fn is_fresh(image: &[u8], shape: Shape, k: usize) -> bool
     requires { ⌜ (shape .m ≤ 64) × (k < shape .m) × (entryAt shape (shape .m) ≤ length (now image)) ⌝ }
-    ensures { λ r. ⌜ ((c first : ℕ) → r ≡ isFresh (decodeUnder shape c first (now (image .entry)) .entries k)) ⌝ }
+    ensures { λ r. ⌜ ((c first : ℕ) → isWitness shape c ≡ false → r ≡ isFresh (decodeUnder shape c first (now (image .entry)) .entries k)) ⌝ }
 {
     let a = entry_at(shape, k);
     let e = a + ENTRY_SIZE;
@@ -66,7 +68,8 @@ fn faulty_verdict(entry: EntryState, k: usize, used: usize) -> u8
 // The verdict of slot k whose record is blank: unfinished, if it is the first such one and its entry is not fresh.
 fn unused_verdict(image: &[u8], shape: Shape, k: usize, used: usize) -> u8
     requires { ⌜ (shape .m ≤ 64) × (k < shape .m) × (entryAt shape (shape .m) ≤ length (now image)) ⌝ }
-    ensures { λ r. ⌜ ((c first : ℕ) → r ≡ verdictOf used k Unused (decodeUnder shape c first (now (image .entry)) .entries k)) ⌝ }
+    ensures { λ r. ⌜ ((c first : ℕ) → isWitness shape c ≡ false
+        → r ≡ verdictOf used k Unused (decodeUnder shape c first (now (image .entry)) .entries k)) ⌝ }
 {
     if k != used {
         return 0;
@@ -80,10 +83,10 @@ fn unused_verdict(image: &[u8], shape: Shape, k: usize, used: usize) -> u8
 // The verdict of slot k of a log of so many used slots. Where its condition does not tell, its entry is looked at.
 fn verdict(image: &[u8], shape: Shape, first: u32, condition: u8, k: usize, used: usize) -> u8
     requires { ⌜ (shape .m ≤ 64) × (k < shape .m) × (entryAt shape (shape .m) ≤ length (now image)) ⌝ }
-    ensures { λ r. ⌜ ((c : ℕ) (a : Condition) → condition ≡ conditionNumber a
+    ensures { λ r. ⌜ ((c : ℕ) → isWitness shape c ≡ false → (a : Condition) → condition ≡ conditionNumber a
         → r ≡ verdictOf used k a (decodeUnder shape c first (now (image .entry)) .entries k)) ⌝ }
 {
-    if condition == condition::LOST {
+    if condition::LOST <= condition {
         return 0;
     }
     if condition == condition::FAULTY {
@@ -117,7 +120,8 @@ fn fill_verdicts(
     verdicts: &mut [u8],
 )
     requires { ⌜ (shape .m ≤ 64) × (entryAt shape (shape .m) ≤ length (now image)) × (length (now verdicts) ≡ shape .m) ⌝ }
-    ensures { λ _. ⌜ ((c : ℕ) → Marked (shape .m) (decodeUnder shape c first (now (image .entry))) used (now (conditions .entry))
+    ensures { λ _. ⌜ ((c : ℕ) → isWitness shape c ≡ false
+        → Marked (shape .m) (decodeUnder shape c first (now (image .entry))) used (now (conditions .entry))
         → now (verdicts .exit) ≡ verdictsOf (shape .m) (decodeUnder shape c first (now (image .entry)))) ⌝ }
 {
     let m = shape.m;
@@ -128,7 +132,7 @@ fn fill_verdicts(
     }
 }
 
-// Reads an image: its log's length and its first index, and into the lent buffers the epoch and the verdict of each slot.
+// Reads a card's image: its log's length and its first index, and into the lent buffers the epoch and the verdict of each slot.
 pub fn read_image(
     image: &[u8],
     shape: Shape,
@@ -142,7 +146,7 @@ pub fn read_image(
         × (now (verdicts .exit) ≡ verdictsLeft shape replica (now (image .entry)) (length (now (epochs .entry))) (now (verdicts .entry))) ⌝ }
 {
     let m = shape.m;
-    let view = open_image(image, shape, replica);
+    let view = open_card(image, shape, replica);
     let refusal = view.refusal;
     if refusal != 0 {
         return ReadAnswer::Refused(refusal);
@@ -165,6 +169,30 @@ pub fn read_image(
     }
 }
 
+// Reads a witness's image: its log's length and its first index, and into the lent buffer the epoch of each slot (document 02, Seven).
+pub fn read_witness(image: &[u8], shape: Shape, replica: usize, epochs: &mut [u32]) -> ReadAnswer
+    ensures { λ r. ⌜ (readNumbers r ≡ witnessCallNumbers shape replica (now (image .entry)) (length (now (epochs .entry))))
+        × (now (epochs .exit) ≡ witnessEpochsLeft shape replica (now (image .entry)) (now (epochs .entry))) ⌝ }
+{
+    let slots = shape.m;
+    let found = open_witness(image, shape, replica);
+    let unread = found.refusal;
+    if unread != 0 {
+        return ReadAnswer::Refused(unread);
+    }
+    if epochs.len() != slots {
+        return ReadAnswer::Refused(13);
+    }
+    let begins = found.first;
+    let length = found.length;
+    let recorded = found.epochs;
+    fill_epochs(&recorded, epochs);
+    ReadAnswer::Log {
+        length,
+        first: begins,
+    }
+}
+
 // Whether a slot, by its number, is there and whole.
 fn holds_payload(conditions: &[u8; MAX_SLOTS], m: usize, slot: usize) -> bool
     requires { ⌜ m ≤ 64 ⌝ }
@@ -179,12 +207,12 @@ fn holds_payload(conditions: &[u8; MAX_SLOTS], m: usize, slot: usize) -> bool
     is_whole(conditions[slot - 1])
 }
 
-// Whether a slot has a payload.
+// Whether a slot of a card has a payload.
 pub fn has_payload(image: &[u8], shape: Shape, replica: usize, slot: usize) -> PayloadAnswer
     ensures { λ r. ⌜ payloadNumbers r ≡ payloadCallNumbers shape replica (now (image .entry)) slot ⌝ }
 {
     let m = shape.m;
-    let view = open_image(image, shape, replica);
+    let view = open_card(image, shape, replica);
     let refusal = view.refusal;
     if refusal != 0 {
         return PayloadAnswer::Refused(refusal);
@@ -200,7 +228,7 @@ pub fn has_payload(image: &[u8], shape: Shape, replica: usize, slot: usize) -> P
 fn entry_span(image: &[u8], shape: Shape, first: u32, k: usize) -> Span
     requires { ⌜ (shape .m ≤ 64) × (k < shape .m) × (entryAt shape (shape .m) ≤ length (now image)) ⌝ }
     ensures { λ r. ⌜ SpanIn (length (now (image .entry))) (r .start) (r .end)
-        × ((c : ℕ) → isWhole (conditionAt (decodeUnder shape c first (now (image .entry))) k) ≡ true
+        × ((c : ℕ) → isWitness shape c ≡ false → isWhole (conditionAt (decodeUnder shape c first (now (image .entry))) k) ≡ true
         → (part (now (image .entry)) (r .start) (r .end - r .start) ≡ entryPayload (part (now (image .entry)) (entryAt shape k) entrySize))
         × (r .start ≡ entryAt shape k + 26)) ⌝ }
 {
@@ -218,14 +246,14 @@ fn entry_span(image: &[u8], shape: Shape, first: u32, k: usize) -> Span
     }
 }
 
-// Where the payload of a slot stands, or an empty span at 0.
+// Where the payload of a slot of a card stands, or an empty span at 0.
 pub fn payload_span(image: &[u8], shape: Shape, replica: usize, slot: usize) -> Span
     ensures { λ r. ⌜ SpanIn (length (now (image .entry))) (r .start) (r .end)
         × ((part (now (image .entry)) (r .start) (r .end - r .start) ≡ payloadOf shape replica (now (image .entry)) slot)
         × (r .start ≡ payloadAt shape replica (now (image .entry)) slot)) ⌝ }
 {
     let m = shape.m;
-    let view = open_image(image, shape, replica);
+    let view = open_card(image, shape, replica);
     let refusal = view.refusal;
     if refusal != 0 {
         return Span { start: 0, end: 0 };
@@ -238,7 +266,7 @@ pub fn payload_span(image: &[u8], shape: Shape, replica: usize, slot: usize) -> 
     entry_span(image, shape, first, slot - 1)
 }
 
-// The payload of a slot: its part of the image, or the empty part.
+// The payload of a slot of a card: its part of the image, or the empty part.
 pub fn payload_of(image: &[u8], shape: Shape, replica: usize, slot: usize) -> &[u8]
     ensures { λ r. ⌜ now r ≡ payloadOf shape replica (now (image .entry)) slot ⌝ }
 {

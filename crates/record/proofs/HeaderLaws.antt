@@ -13,10 +13,10 @@ use Rattle.slices.proofs.SameLaws.{and-left, and-right, and-true, not-so, same-
 use Rattle.column.specs.Column.{column, valueOf}
 use Rattle.column.proofs.ColumnLaws.{length-column}
 use Rattle.record.specs.declared.Shape.{Shape}
-use Rattle.record.specs.Layout.{givesFirst, firstColumn, sealed, fixedWord, headerBytes}
+use Rattle.record.specs.Layout.{givesFirst, firstColumn, sealed, headerWord, headerBytes}
 use Rattle.record.specs.Meaning.{Header, proper, improper, firstIndex, isFirst, headerFirst, isHeader, readHeader, writeHeader}
 use Rattle.record.specs.Exactly.{HeaderFor, HeaderIs}
-use Rattle.record.proofs.LayoutLaws.{column-at, first-there}
+use Rattle.record.proofs.LayoutLaws.{column-at, length-word, first-there}
 
 -- ---- a first index
 
@@ -79,7 +79,7 @@ sixth u v w x y z t first h e low =
 column-back : (Z : Shape) (c first : ℕ) → givesFirst Z ≡ true → first < 10 ^ 11 → valueOf (part (headerBytes Z c first) 16 11) ≡ first
 unfolding headerBytes sealed
 column-back Z c first e low =
-    sixth fixedWord (column 3 (Z .edition)) (column 3 c) (column 3 (Z .n)) (column 3 (Z .m)) (firstColumn Z first) _ first (simp (length-append, length-column)) (first-there Z first e) low
+    sixth (headerWord Z c) (column 3 (Z .edition)) (column 3 c) (column 3 (Z .n)) (column 3 (Z .m)) (firstColumn Z first) _ first (simp (length-append, length-column, length-word)) (first-there Z first e) low
 
 -- so the first index is read where it was written
 first-back : (Z : Shape) (c first : ℕ) → isFirst Z first ≡ true → headerFirst Z (headerBytes Z c first) ≡ first

@@ -1,20 +1,23 @@
 -- Laws of the layout: lengths, where each column stands, and that what is written determines what it was written from.
-use Prim.Native.Nat.{ℕ, _+_, _^_, _<_, _≤_}
+use Prim.Native.Nat.{ℕ, zero, suc, _+_, _^_, _<_, _≤_}
 use mathlib.Core.Path.{_≡_, refl, sym, _∙_, ap}
 use mathlib.Core.Bool.{Bool, true, false, cond, true≢false}
 use mathlib.Core.List.{[], _++_, append-assoc}
 use native.Mathlib.Omega.{arith}
+use native.Mathlib.Nat.{div-eq-of-lt}
+use lib.Pow.{pow-pos}
 use lib.Dec.{eqb}
-use lib.ListN.{length, take, drop, length-append, length-replicate}
+use lib.ListN.{length, getD, take, drop, length-append, length-replicate}
 use lib.Seq.{drop-at, take-at}
 use borrow.Author.Tests.{eq-eqb, ne-eqb}
+use Rattle.search.specs.Sets.{has}
 use Rattle.slices.specs.Parts.{Bytes, part}
 use Rattle.slices.proofs.PartLaws.{part-middle}
 use Rattle.column.specs.Column.{column, valueOf}
 use Rattle.column.proofs.ColumnLaws.{length-column, value-column, column-injective}
 use Rattle.record.specs.declared.Shape.{Shape}
 use Rattle.record.specs.Claims.{WritableHeader}
-use Rattle.record.specs.Layout.{givesFirst, headerSize, firstColumn, sealed, fixedWord, headerBytes, recordBytes, blankRecord, padded, entryBytes, freshEntry}
+use Rattle.record.specs.Layout.{isWitness, givesFirst, headerSize, firstColumn, sealed, fixedWord, witnessWord, headerWord, headerBytes, recordBytes, blankRecord, padded, entryBytes, freshEntry}
 
 -- ---- lengths
 
@@ -37,6 +40,33 @@ header-size-high Z = go (givesFirst Z)
     go : (t : Bool) → cond t 39 28 ≤ 39
     go true = omega arith
     go false = omega arith
+
+-- no bit, no witness
+no-bit : (w c : ℕ) → w ≡ 0 → has w c ≡ false
+unfolding has
+no-bit w c none = rw (none, div-eq-of-lt (pow-pos c))
+
+pub no-witness : (Z : Shape) → Z .witnesses ≡ 0 → (c : ℕ) → isWitness Z c ≡ false
+unfolding isWitness
+no-witness Z none zero = refl
+no-witness Z none (suc c) = no-bit (Z .witnesses) _ none
+
+-- its word: a card's and a witness's, both of four bytes
+pub word-card : (Z : Shape) (c : ℕ) → isWitness Z c ≡ false → headerWord Z c ≡ fixedWord
+unfolding headerWord
+word-card Z c h = rw h
+
+pub word-witness : (Z : Shape) (c : ℕ) → isWitness Z c ≡ true → headerWord Z c ≡ witnessWord
+unfolding headerWord
+word-witness Z c h = rw h
+
+pub length-word : (Z : Shape) (c : ℕ) → length (headerWord Z c) ≡ 4
+unfolding headerWord
+length-word Z c = go (isWitness Z c)
+  where
+    go : (t : Bool) → length (cond t witnessWord fixedWord) ≡ 4
+    go true = refl
+    go false = refl
 
 -- by its edition
 pub header-size-one : (Z : Shape) → givesFirst Z ≡ false → headerSize Z ≡ 28
@@ -65,7 +95,7 @@ length-first Z first = go (givesFirst Z)
 
 pub length-header : (Z : Shape) (c first : ℕ) → length (headerBytes Z c first) ≡ headerSize Z
 unfolding headerBytes
-length-header Z c first = simp (length-sealed, length-append, length-column) (omega (arith, length-first Z first))
+length-header Z c first = simp (length-sealed, length-append, length-column) (omega (arith, length-word Z c, length-first Z first))
 
 -- a shape of edition 2 gives its first index, and no other does
 pub gives-two : (Z : Shape) → Z .edition ≡ 2 → givesFirst Z ≡ true
@@ -115,6 +145,17 @@ column-apart w x y r s hx hy e =
 
 -- ---- what is written determines what it was written from
 
+-- a witness's word is no card's
+word-apart : (Z Y : Shape) (c d : ℕ) → headerWord Z c ≡ headerWord Y d → isWitness Z c ≡ isWitness Y d
+unfolding headerWord
+word-apart Z Y c d = go (isWitness Z c) (isWitness Y d)
+  where
+    go : (t u : Bool) → cond t witnessWord fixedWord ≡ cond u witnessWord fixedWord → t ≡ u
+    go true true e = refl
+    go true false e = absurd (let z : _≡_ {A = ℕ} 119 114 = ap (λ (b : Bytes). getD b 0 0) e in omega (arith, z))
+    go false true e = absurd (let z : _≡_ {A = ℕ} 114 119 = ap (λ (b : Bytes). getD b 0 0) e in omega (arith, z))
+    go false false e = refl
+
 module _ (Z Y : Shape) (c d first first′ : ℕ) (a : WritableHeader Z c first) (b : WritableHeader Y d first′) where
   first-apart : (t u : Bool) → t ≡ u → (r s : Bytes) → cond t (column 11 first) [] ++ r ≡ cond u (column 11 first′) [] ++ s → t ≡ true → first ≡ first′
   first-apart true true e r s h k = column-apart 11 first first′ r s (a .first-fits) (b .first-fits) h .0
@@ -126,15 +167,15 @@ module _ (Z Y : Shape) (c d first first′ : ℕ) (a : WritableHeader Z c first)
   alike e = ap (λ (q : ℕ). eqb q 2) e
 
   pub header-determined : headerBytes Z c first ≡ headerBytes Y d first′
-      → (Z .edition ≡ Y .edition) × (c ≡ d) × (Z .n ≡ Y .n) × (Z .m ≡ Y .m) × (givesFirst Z ≡ true → first ≡ first′)
+      → (Z .edition ≡ Y .edition) × (c ≡ d) × (Z .n ≡ Y .n) × (Z .m ≡ Y .m) × (isWitness Z c ≡ isWitness Y d) × (givesFirst Z ≡ true → first ≡ first′)
   unfolding headerBytes sealed firstColumn
   header-determined h =
-      let z = front-apart fixedWord _ fixedWord _ refl (simp append-assoc at h) in
+      let z = front-apart (headerWord Z c) _ (headerWord Y d) _ (length-word Z c ∙ sym (length-word Y d)) (simp append-assoc at h) in
       let e = column-apart 3 (Z .edition) (Y .edition) _ _ (a .edition-fits) (b .edition-fits) (z .1) in
       let x = column-apart 3 c d _ _ (a .replica-fits) (b .replica-fits) (e .1) in
       let y = column-apart 3 (Z .n) (Y .n) _ _ (a .replicas-fit) (b .replicas-fit) (x .1) in
       let w = column-apart 3 (Z .m) (Y .m) _ _ (a .slots-fit) (b .slots-fit) (y .1) in
-      (e .0, x .0, y .0, w .0, first-apart (givesFirst Z) (givesFirst Y) (alike (e .0)) _ _ (w .1))
+      (e .0, x .0, y .0, w .0, word-apart Z Y c d (z .0), first-apart (givesFirst Z) (givesFirst Y) (alike (e .0)) _ _ (w .1))
 
 pub record-determined : (e k e′ k′ : ℕ) → e < 10 ^ 11 → k < 10 ^ 11 → e′ < 10 ^ 11 → k′ < 10 ^ 11
     → recordBytes e k ≡ recordBytes e′ k′ → (e ≡ e′) × (k ≡ k′)

@@ -1,5 +1,6 @@
 -- Laws that the proofs of this crate, and of the crates above it, cite.
 pub mod LayoutLaws
+pub mod WitnessLaws
 pub mod RecordLaws
 pub mod HeaderLaws
 pub mod EntryLaws

@@ -2,7 +2,7 @@
 use Prim.Native.Nat.{ℕ, zero, suc, _+_, _-_, _≤_}
 use mathlib.Core.Path.{_≡_, refl, sym, _∙_, ap}
 use mathlib.Core.Bool.{true, false}
-use mathlib.Core.List.{[], _++_, append-assoc, append-nil}
+use mathlib.Core.List.{[], _∷_, _++_, append-assoc, append-nil}
 use native.Mathlib.Omega.{arith}
 use native.Mathlib.Nat.{sub-zero}
 use lib.ListN.{length, take, drop, set, replicate, length-append, length-replicate, take-append-drop}
@@ -13,9 +13,9 @@ use Rattle.checksum.specs.Checksum.{checksumOf}
 use Rattle.column.specs.Column.{column}
 use Rattle.column.proofs.ColumnLaws.{length-column}
 use Rattle.record.specs.declared.Shape.{Shape}
-use Rattle.record.specs.Layout.{givesFirst, headerSize, sealed, fixedWord, headerBytes, recordBytes, blankRecord, padded, entryBytes, freshEntry}
+use Rattle.record.specs.Layout.{isWitness, givesFirst, headerSize, sealed, headerWord, headerBytes, recordBytes, blankRecord, padded, entryBytes, freshEntry}
 use Rattle.record.specs.Seal.{headerFront, sealOf}
-use Rattle.record.proofs.LayoutLaws.{length-sealed, header-size-one, header-size-two, first-none, first-there}
+use Rattle.record.proofs.LayoutLaws.{length-sealed, word-card, word-witness, length-word, header-size-one, header-size-two, first-none, first-there}
 use Rattle.record.proofs.JudgeLaws.{length-seal, sealed-is}
 
 -- s begins with x
@@ -79,6 +79,16 @@ seal-put s at sum {t} fits h f =
     let rest : drop (suc (at + 11)) t ≡ drop (at + 12) s = ap (drop (suc (at + 11))) f ∙ drop-spliced s at v (omega arith) (suc (at + 11)) (omega arith) ∙ ap (λ (k : ℕ). drop k s) n in
     set-split t (at + 11) 10 (omega arith) ∙ rw (front, rest, append-assoc) (rw e (simp (append-assoc, length-append) (rw (length-column 11 (checksumOf (take at s))) refl)))
 
+-- ---- the word of a header
+
+-- four bytes, as the code has them
+module _ (Z : Shape) (c : ℕ) (s : Bytes) {t : Bytes} {w x y z : ℕ} where
+  pub word-put : isWitness Z c ≡ false → w ≡ 114 → x ≡ 111 → y ≡ 112 → z ≡ 101 → t ≡ spliced s 0 (w ∷ x ∷ y ∷ z ∷ []) → t ≡ spliced s 0 (headerWord Z c)
+  word-put card p q r v h = h ∙ rw (p, q, r, v, word-card Z c card)
+
+  pub witness-put : isWitness Z c ≡ true → w ≡ 119 → x ≡ 105 → y ≡ 116 → z ≡ 115 → t ≡ spliced s 0 (w ∷ x ∷ y ∷ z ∷ []) → t ≡ spliced s 0 (headerWord Z c)
+  witness-put witness p q r v h = h ∙ rw (p, q, r, v, word-witness Z c witness)
+
 -- ---- the writers, store after store
 
 drop-spaces : (k n : ℕ) → drop {A = ℕ} k (replicate n 32) ≡ replicate (n - k) 32
@@ -89,6 +99,7 @@ drop-spaces (suc k) (suc n) = let z : suc n - suc k ≡ n - k = omega arith in r
 length-front : (Z : Shape) (c : ℕ) → length (headerFront Z c) ≡ 16
 unfolding headerFront
 length-front Z c =
+    let lw = length-word Z c in
     let le = length-column 3 (Z .edition) in
     let lc = length-column 3 c in
     let ln = length-column 3 (Z .n) in
@@ -96,11 +107,11 @@ length-front Z c =
     simp length-append (omega arith)
 
 front-then : (Z : Shape) (c : ℕ) (t : Bytes)
-    → headerFront Z c ++ t ≡ fixedWord ++ (column 3 (Z .edition) ++ (column 3 c ++ (column 3 (Z .n) ++ (column 3 (Z .m) ++ t))))
+    → headerFront Z c ++ t ≡ headerWord Z c ++ (column 3 (Z .edition) ++ (column 3 c ++ (column 3 (Z .n) ++ (column 3 (Z .m) ++ t))))
 unfolding headerFront
 front-then Z c t = simp append-assoc
 
-front-none : (Z : Shape) (c : ℕ) → headerFront Z c ≡ fixedWord ++ (column 3 (Z .edition) ++ (column 3 c ++ (column 3 (Z .n) ++ (column 3 (Z .m) ++ []))))
+front-none : (Z : Shape) (c : ℕ) → headerFront Z c ≡ headerWord Z c ++ (column 3 (Z .edition) ++ (column 3 c ++ (column 3 (Z .n) ++ (column 3 (Z .m) ++ []))))
 front-none Z c = sym (append-nil (headerFront Z c)) ∙ front-then Z c []
 
 -- what follows the front of a header: the seal
@@ -144,21 +155,22 @@ module _ (s₀ : Bytes) where
 
   -- the front of a header, of numbers that are the shape's and the replica's
   pub front-written : (Z : Shape) (c : ℕ) {e d n m : ℕ} (s₁ s₂ s₃ s₄ s₅ : Bytes) → 16 ≤ length s₀ → e ≡ Z .edition → d ≡ c → n ≡ Z .n → m ≡ Z .m
-      → s₁ ≡ spliced s₀ 0 fixedWord → s₂ ≡ spliced s₁ 4 (column 3 e) → s₃ ≡ spliced s₂ 7 (column 3 d) → s₄ ≡ spliced s₃ 10 (column 3 n)
+      → s₁ ≡ spliced s₀ 0 (headerWord Z c) → s₂ ≡ spliced s₁ 4 (column 3 e) → s₃ ≡ spliced s₂ 7 (column 3 d) → s₄ ≡ spliced s₃ 10 (column 3 n)
       → s₅ ≡ spliced s₄ 13 (column 3 m) → take 16 s₅ ≡ headerFront Z c
   unfolding headerFront
   front-written Z c {e} {d} {n} {m} s₁ s₂ s₃ s₄ s₅ g qe qd qn qm h₁ h₂ h₃ h₄ h₅ =
       let size = length s₀ in
+      let lw = length-word Z c in
       let le = length-column 3 e in
       let lc = length-column 3 d in
       let ln = length-column 3 n in
       let lm = length-column 3 m in
-      let w₁ = then size 0 fixedWord (start size s₀ refl) refl (omega arith) h₁ in
-      let w₂ = then size 4 (column 3 e) w₁ refl (omega arith) h₂ in
+      let w₁ = then size 0 (headerWord Z c) (start size s₀ refl) refl (omega arith) h₁ in
+      let w₂ = then size 4 (column 3 e) w₁ lw (omega arith) h₂ in
       let w₃ = then size 7 (column 3 d) w₂ (simp length-append (omega arith)) (omega arith) h₃ in
       let w₄ = then size 10 (column 3 n) w₃ (simp length-append (omega arith)) (omega arith) h₄ in
       let w₅ = then size 13 (column 3 m) w₄ (simp length-append (omega arith)) (omega arith) h₅ in
-      let l : length ((((fixedWord ++ column 3 e) ++ column 3 d) ++ column 3 n) ++ column 3 m) ≡ 16 = simp length-append (omega arith) in
+      let l : length ((((headerWord Z c ++ column 3 e) ++ column 3 d) ++ column 3 n) ++ column 3 m) ≡ 16 = simp length-append (omega arith) in
       (rw l at (w₅ .begins)) ∙ rw (qe, qd, qn, qm)
 
   pub entry-written : (e k : ℕ) (p : Bytes) (s₁ s₂ s₃ s₄ s₅ s₆ : Bytes) → length s₀ ≡ 240 → length p ≤ 200 → s₁ ≡ replicate (length s₀) 32

@@ -1,13 +1,13 @@
 -- What document 01 says of headers, records and entries, as claims that the check demands.
 use Prim.Native.Nat.{ℕ, _+_, _^_, _<_, _≤_}
 use mathlib.Core.Path.{_≡_}
-use mathlib.Core.Bool.{true}
+use mathlib.Core.Bool.{true, false}
 use mathlib.Core.List.{_++_}
 use lib.ListN.{length, getD, set}
 use Rattle.slices.specs.Parts.{Bytes}
 use Rattle.column.specs.Column.{column}
 use Rattle.record.specs.declared.Shape.{Shape}
-use Rattle.record.specs.Layout.{givesFirst, headerSize, sealed, fixedWord, headerBytes, recordBytes, entryBytes}
+use Rattle.record.specs.Layout.{isWitness, givesFirst, headerSize, sealed, fixedWord, witnessWord, headerBytes, recordBytes, entryBytes}
 use Rattle.record.specs.Meaning.{Header, proper, firstIndex, isFirst, Record, good, Entry, intact, broken, isEpoch, readHeader, readRecord, readEntry}
 use Rattle.record.specs.Exactly.{HeaderIs, RecordIs, EntryIs}
 
@@ -28,10 +28,13 @@ pub record WritableHeader (Z : Shape) (c first : ℕ) : Type 0 where
   pub slots-fit : Z .m < 1000
   pub first-fits : first < 10 ^ 11
 
--- what edition 1 writes and reads is what document 01 says: the header as it was, for one first index alone, which is 1
+-- what edition 1 writes and reads is what document 01 says: a card's header as it was, for one first index alone, which is 1
 pub record EditionOne : Type 0 where
-  pub header : (Z : Shape) (c first : ℕ) → Z .edition ≡ 1
+  pub header : (Z : Shape) (c first : ℕ) → Z .edition ≡ 1 → isWitness Z c ≡ false
       → headerBytes Z c first ≡ sealed (fixedWord ++ (column 3 1 ++ (column 3 c ++ (column 3 (Z .n) ++ column 3 (Z .m)))))
+  -- a witness has the usual header, with `wits` in place of `rope` (02, Seven)
+  pub witness-header : (Z : Shape) (c first : ℕ) → Z .edition ≡ 1 → isWitness Z c ≡ true
+      → headerBytes Z c first ≡ sealed (witnessWord ++ (column 3 1 ++ (column 3 c ++ (column 3 (Z .n) ++ column 3 (Z .m)))))
   pub size : (Z : Shape) → Z .edition ≡ 1 → headerSize Z ≡ 28
   pub first : (Z : Shape) (c : ℕ) (b : Bytes) → Z .edition ≡ 1 → firstIndex (readHeader Z c b) ≡ 1
   pub only : (Z : Shape) (first : ℕ) → Z .edition ≡ 1 → isFirst Z first ≡ true → first ≡ 1
@@ -44,7 +47,7 @@ pub record RoundTrip : Type 0 where
   pub entry-back : (k e : ℕ) (p : Bytes) → isEpoch e ≡ true → length p ≤ 200 → readEntry k (entryBytes e k p) ≡ intact e p
   pub header-determined : (Z Y : Shape) (c d first first′ : ℕ) → WritableHeader Z c first → WritableHeader Y d first′
       → headerBytes Z c first ≡ headerBytes Y d first′
-      → (Z .edition ≡ Y .edition) × (c ≡ d) × (Z .n ≡ Y .n) × (Z .m ≡ Y .m) × (givesFirst Z ≡ true → first ≡ first′)
+      → (Z .edition ≡ Y .edition) × (c ≡ d) × (Z .n ≡ Y .n) × (Z .m ≡ Y .m) × (isWitness Z c ≡ isWitness Y d) × (givesFirst Z ≡ true → first ≡ first′)
   pub record-determined : (e k e′ k′ : ℕ) → e < 10 ^ 11 → k < 10 ^ 11 → e′ < 10 ^ 11 → k′ < 10 ^ 11
       → recordBytes e k ≡ recordBytes e′ k′ → (e ≡ e′) × (k ≡ k′)
   pub entry-determined : (e k : ℕ) (p : Bytes) (e′ k′ : ℕ) (p′ : Bytes) → e < 10 ^ 11 → k < 10 ^ 11 → length p ≤ 200

@@ -1,13 +1,19 @@
 -- Document 01, "The card image": what the writer writes.
-use Prim.Native.Nat.{ℕ, _-_}
-use mathlib.Core.Bool.{Bool, cond}
+use Prim.Native.Nat.{ℕ, zero, suc, _-_}
+use mathlib.Core.Bool.{Bool, false, cond}
 use mathlib.Core.List.{[], _∷_, _++_}
 use lib.Dec.{eqb}
 use lib.ListN.{length, replicate}
+use Rattle.search.specs.Sets.{has}
 use Rattle.slices.specs.Parts.{Bytes}
 use Rattle.checksum.specs.Checksum.{checksumOf}
 use Rattle.column.specs.Column.{column}
 use Rattle.record.specs.declared.Shape.{Shape}
+
+-- replica number c is a witness (02, Seven), which stores records only: bit c - 1 of the set stands for it
+unfoldable pub isWitness : Shape → ℕ → Bool
+isWitness Z zero = false
+isWitness Z (suc c) = has (Z .witnesses) c
 
 -- edition 2 gives the index of the first slot in its header (02, Six)
 unfoldable pub givesFirst : Shape → Bool
@@ -34,14 +40,22 @@ sealed b = b ++ (column 11 (checksumOf b) ++ (10 ∷ []))
 abbrev pub fixedWord : Bytes
 fixedWord = 114 ∷ 111 ∷ 112 ∷ 101 ∷ []
 
+-- the four bytes `wits` (02, Seven)
+abbrev pub witnessWord : Bytes
+witnessWord = 119 ∷ 105 ∷ 116 ∷ 115 ∷ []
+
+-- the word that the header of replica c begins with
+unfoldable pub headerWord : Shape → ℕ → Bytes
+headerWord Z c = cond (isWitness Z c) witnessWord fixedWord
+
 -- 02's column of the first index, in edition 2 alone
 unfoldable pub firstColumn : Shape → ℕ → Bytes
 firstColumn Z first = cond (givesFirst Z) (column 11 first) []
 
--- 01's head: `rope`, the edition, replica c, n, m, and the first index where the edition gives it
+-- 01's head: `rope`, or a witness's `wits`; the edition, replica c, n, m, and the first index where the edition gives it
 unfoldable pub headerBytes : Shape → ℕ → ℕ → Bytes
 headerBytes Z c first =
-    sealed (fixedWord ++ (column 3 (Z .edition) ++ (column 3 c ++ (column 3 (Z .n) ++ (column 3 (Z .m) ++ firstColumn Z first)))))
+    sealed (headerWord Z c ++ (column 3 (Z .edition) ++ (column 3 c ++ (column 3 (Z .n) ++ (column 3 (Z .m) ++ firstColumn Z first)))))
 
 -- 01's line, of an epoch and an index
 unfoldable pub recordBytes : ℕ → ℕ → Bytes

@@ -7,12 +7,12 @@ use Rattle.slices.specs.Same.{same}
 use Rattle.checksum.specs.Checksum.{checksumOf}
 use Rattle.column.specs.Column.{column}
 use Rattle.record.specs.declared.Shape.{Shape}
-use Rattle.record.specs.Layout.{fixedWord}
+use Rattle.record.specs.Layout.{headerWord}
 use Rattle.record.specs.Meaning.{isEpoch}
 
 -- the 16 bytes of a header before its first index, or before its seal where it gives none
 unfoldable pub headerFront : Shape → ℕ → Bytes
-headerFront Z c = (((fixedWord ++ column 3 (Z .edition)) ++ column 3 c) ++ column 3 (Z .n)) ++ column 3 (Z .m)
+headerFront Z c = (((headerWord Z c ++ column 3 (Z .edition)) ++ column 3 c) ++ column 3 (Z .n)) ++ column 3 (Z .m)
 
 -- what follows the bytes b in their header, record or entry: the checksum and a newline
 unfoldable pub sealOf : Bytes → Bytes

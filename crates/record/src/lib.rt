@@ -1,12 +1,14 @@
 // Headers, records and entries: definitions and laws. The code is `write`'s and `judge`'s.
 ghost use Rattle.record.specs.Claims.{Exact, EditionOne, RoundTrip, ChangedPayload};
 
-// What a call names of its cluster: n replicas of m slots each, all of one edition. A header of edition 2 gives the index of the first slot.
+// What a call names of its cluster: n replicas of m slots each, all of one edition, and the set of those that are witnesses. A header of
+// edition 2 gives the index of the first slot.
 #[repr(C)]
 pub struct Shape {
     pub n: usize,
     pub m: usize,
     pub edition: usize,
+    pub witnesses: u32,
 }
 
 // What a header is found to be: the writer's, with the index of the first slot, or not.

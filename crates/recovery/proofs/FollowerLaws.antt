@@ -15,7 +15,8 @@ use Rattle.record.specs.declared.Shape.{Shape}
 use Rattle.image.specs.View.{View}
 use Rattle.image.specs.Cluster.{Cluster, decode}
 use Rattle.image.proofs.ClusterLaws.{image-fits}
-use Rattle.planner.specs.Setting.{Setting, has}
+use Rattle.search.specs.Sets.{has}
+use Rattle.planner.specs.Setting.{Setting}
 use Rattle.planner.specs.Rules.{answers}
 use Rattle.planner.specs.Plan.{viewsIn}
 use Rattle.planner.specs.Survey.{SurveyIs}

@@ -15,3 +15,4 @@ pub mod NoteLaws
 pub mod ReadySurveyLaws
 pub mod Noting
 pub mod RestLaws
+pub mod WitnessLaws

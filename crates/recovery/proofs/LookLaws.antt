@@ -9,7 +9,7 @@ use lib.ListN.{getD}
 use borrow.Author.Tests.{lt-ltb, le-ltb}
 use Rattle.search.specs.Search.{lowest}
 use Rattle.search.proofs.SearchLaws.{lowest-le, lowest-passes, lowest-cong}
-use Rattle.image.specs.View.{Condition, Unused, Whole, RecordLost, Faulty, Lost, View}
+use Rattle.image.specs.View.{Condition, Unused, Whole, RecordLost, Faulty, Lost, RecordOnly, View}
 use Rattle.image.specs.View.{conditionNumber}
 use Rattle.image.proofs.ScannedLaws.{taken-at}
 use Rattle.planner.specs.Setting.{Setting}
@@ -29,6 +29,7 @@ lost-number Whole = refl
 lost-number RecordLost = refl
 lost-number Faulty = refl
 lost-number Lost = refl
+lost-number RecordOnly = refl
 
 faulty-number : (a : Condition) → eqb (conditionNumber a) 3 ≡ isFaulty a
 unfolding isFaulty
@@ -37,6 +38,7 @@ faulty-number Whole = refl
 faulty-number RecordLost = refl
 faulty-number Faulty = refl
 faulty-number Lost = refl
+faulty-number RecordOnly = refl
 
 module _ {m : ℕ} {v : View} {c length : ℕ} {conditions epochs : List ℕ} (s : Looked m v c length conditions epochs) where
   pub lost-found : (b : ℕ) → b ≤ m → lowest (λ k. eqb (getD conditions (c * 64 + k) 0) 2) b ≡ lowest (λ k. isRecordLost (v .condition k)) b
@@ -58,6 +60,7 @@ fetch-byte Keep Whole d = refl
 fetch-byte Keep RecordLost d = refl
 fetch-byte Keep Faulty d = refl
 fetch-byte Keep Lost d = refl
+fetch-byte Keep RecordOnly d = refl
 fetch-byte Fetch a d = lt-ltb 10 (10 + suc d) (omega arith)
 fetch-byte Truncate a d = refl
 fetch-byte Wait a d = refl

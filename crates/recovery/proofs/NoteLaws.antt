@@ -1,6 +1,6 @@
 -- A survey with one slot changed is the survey of the views with that slot changed.
 use Prim.Native.Nat.{ℕ, suc, _+_, _*_, _≤_, _<_}
-use mathlib.Core.Path.{_≡_, refl, sym, _∙_, subst}
+use mathlib.Core.Path.{_≡_, refl, sym, ap, _∙_, subst}
 use mathlib.Core.Bool.{Bool, true, false, cond}
 use native.Mathlib.Omega.{arith}
 use lib.Dec.{ltb}
@@ -9,13 +9,16 @@ use lib.Seq.{getD-set-same, getD-set-other}
 use borrow.Author.Tests.{lt-ltb, le-ltb}
 use Rattle.search.specs.Put.{put}
 use Rattle.search.proofs.UpdateLaws.{put-case, put-back}
-use Rattle.image.specs.View.{View, Condition, Unused, Whole}
+use Rattle.image.specs.View.{View, Condition, Unused, Whole, conditionAs}
 use Rattle.image.specs.View.{conditionNumber}
-use Rattle.planner.specs.Setting.{Setting}
+use Rattle.record.specs.declared.Shape.{Shape}
+use Rattle.record.specs.Layout.{isWitness}
+use Rattle.planner.specs.Setting.{Setting, witness}
 use Rattle.planner.specs.Survey.{SurveyOf}
 use Rattle.planner.specs.declared.Survey.{Survey}
 use Rattle.protocol.specs.Store.{storeEntry, storeRecord, storeBlank, storeReplica, storeSlot}
 use Rattle.protocol.proofs.ReadyPlan.{firsts-same}
+use Rattle.recovery.proofs.WitnessLaws.{is-told}
 use Rattle.recovery.specs.Note.{withSlot, seenAfter, viewsAfter, SlotSet, Noted}
 
 module _ (S : Setting) (W : ℕ → View) (c k l : ℕ) (a : Condition) (e : ℕ) where
@@ -66,6 +69,7 @@ module _ (S : Setting) (W : ℕ → View) (c k l : ℕ) (a : Condition) (e : ℕ
       leader-below = f .leader-below;
       slots-fit = f .slots-fit;
       leader-reads = readable-kept leader ∙ f .leader-reads;
+      leader-card = f .leader-card;
       same-firsts = firsts-same S W U readable-kept first-kept ∙ f .same-firsts;
       logs-fit = λ d. put-case (λ (v : View). v .length ≤ S .shape .m) W c (withSlot (W c) k l a e) d (λ q. lm) (λ q. f .logs-fit d);
       surveyed = record {
@@ -77,6 +81,18 @@ module _ (S : Setting) (W : ℕ → View) (c k l : ℕ) (a : Condition) (e : ℕ
       };
     }
 
+-- ---- what a slot is once its record is stored
+
+pub recorded-witness : (Z : Shape) (c : ℕ) {t : Bool} {number r : ℕ} → t ≡ isWitness Z number → number ≡ suc c → t ≡ true → r ≡ 5
+    → r ≡ conditionNumber (conditionAs (isWitness Z (suc c)) Whole)
+unfolding conditionAs
+recorded-witness Z c e n h q = rw (is-told Z c e n h) q
+
+pub recorded-card : (Z : Shape) (c : ℕ) {t : Bool} {number r : ℕ} → t ≡ isWitness Z number → number ≡ suc c → t ≡ false → r ≡ 1
+    → r ≡ conditionNumber (conditionAs (isWitness Z (suc c)) Whole)
+unfolding conditionAs
+recorded-card Z c e n h q = rw (is-told Z c e n h) q
+
 -- ---- the three stores
 
 either : {m : ℕ} (t : Bool) (l x y : ℕ) → l ≡ cond t x y → x ≤ m → y ≤ m → l ≤ m
@@ -84,28 +100,29 @@ either true l x y e h g = omega arith
 either false l x y e h g = omega arith
 
 -- an entry behind the log
-pub noted-entry : (s : Survey) (c k : ℕ) → getD (s .lengths) c 0 ≤ k → (d : ℕ) → Noted (storeEntry c k d) s s
+pub noted-entry : (Z : Shape) (s : Survey) (c k : ℕ) → getD (s .lengths) c 0 ≤ k → (d : ℕ) → Noted Z (storeEntry c k d) s s
 unfolding viewsAfter seenAfter storeReplica storeSlot
-noted-entry s c k h d S W n leader cn km ok f =
+noted-entry Z s c k h d S W n leader z cn km ok f =
     let i = f .surveyed .length-is c cn ok in
     let z : put W c (cond (ltb k (W c .length)) (withSlot (W c) k (W c .length) Whole (W c .epoch k)) (W c)) ≡ W = rw (le-ltb k (W c .length) (omega arith)) (put-back W c) in
     subst (λ (X : ℕ → View). SurveyOf S X n leader (s .readable) (s .firsts) (s .lengths) (s .conditions) (s .epochs)) (sym z) f
 
-module _ (s r : Survey) (c k : ℕ) where
-  pub noted-blank : {x : ℕ} → SlotSet s r c k k x 0 → x ≡ conditionNumber Unused → Noted (storeBlank c k) s r
+module _ (Z : Shape) (s r : Survey) (c k : ℕ) where
+  pub noted-blank : {x : ℕ} → SlotSet s r c k k x 0 → x ≡ conditionNumber Unused → Noted Z (storeBlank c k) s r
   unfolding viewsAfter seenAfter storeReplica storeSlot
-  noted-blank t z S W n leader cn km ok f = slot-set S W c k k Unused 0 n leader s r (rw z at t) cn km ok (omega arith) f
+  noted-blank t z S W n leader sh cn km ok f = slot-set S W c k k Unused 0 n leader s r (rw z at t) cn km ok (omega arith) f
 
-  pub noted-record : {l : ℕ} (e : ℕ) → l ≡ cond (ltb k (getD (s .lengths) c 0)) (getD (s .lengths) c 0) (suc k) → {x : ℕ} → SlotSet s r c k l x e → x ≡ conditionNumber Whole → Noted (storeRecord c k e) s r
+  pub noted-record : {l : ℕ} (e : ℕ) → l ≡ cond (ltb k (getD (s .lengths) c 0)) (getD (s .lengths) c 0) (suc k) → {x : ℕ} → SlotSet s r c k l x e → x ≡ conditionNumber (conditionAs (isWitness Z (suc c)) Whole) → Noted Z (storeRecord c k e) s r
   unfolding viewsAfter seenAfter storeReplica storeSlot
-  noted-record {l} e q t y S W n leader cn km ok f =
+  noted-record {l} e q {x} t y S W n leader sh cn km ok f =
       let i = f .surveyed .length-is c cn ok in
       let z : l ≡ cond (ltb k (W c .length)) (W c .length) (suc k) = rw (← i) q in
-      rw (← z) (slot-set S W c k l Whole e n leader s r (rw y at t) cn km ok (either (ltb k (W c .length)) l (W c .length) (suc k) z (f .logs-fit c) km) f)
+      let own : x ≡ conditionNumber (conditionAs (witness S c) Whole) = y ∙ ap (λ (Y : Shape). conditionNumber (conditionAs (isWitness Y (suc c)) Whole)) (sym sh) in
+      rw (← z) (slot-set S W c k l (conditionAs (witness S c) Whole) e n leader s r (rw own at t) cn km ok (either (ltb k (W c .length)) l (W c .length) (suc k) z (f .logs-fit c) km) f)
 
-  pub noted-mended : k < getD (s .lengths) c 0 → {x : ℕ} → SlotSet s r c k (getD (s .lengths) c 0) x (getD (s .epochs) (c * 64 + k) 0) → x ≡ conditionNumber Whole → (d : ℕ) → Noted (storeEntry c k d) s r
+  pub noted-mended : k < getD (s .lengths) c 0 → {x : ℕ} → SlotSet s r c k (getD (s .lengths) c 0) x (getD (s .epochs) (c * 64 + k) 0) → x ≡ conditionNumber Whole → (d : ℕ) → Noted Z (storeEntry c k d) s r
   unfolding viewsAfter seenAfter storeReplica storeSlot
-  noted-mended h t y d S W n leader cn km ok f =
+  noted-mended h t y d S W n leader sh cn km ok f =
       let i = f .surveyed .length-is c cn ok in
       let j = f .surveyed .epoch-is c k cn km ok in
       rw (lt-ltb k (W c .length) (omega arith)) (slot-set S W c k (W c .length) Whole (W c .epoch k) n leader s r (rw (i, j, y) at t) cn km ok (f .logs-fit c) f)

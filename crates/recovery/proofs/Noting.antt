@@ -62,7 +62,7 @@ module _ (N : Numbers) {b₀ b : Bytes} {t₀ t : NextStore} {leader budget made
       ∙ steps-first (named N) (v .low) budget b₀ (v .size) c
 
   module _ (some-left : isSome (storeOf t) ≡ true) {a : Bytes} (x : a ≡ after (storeOf t) b (λ u. afterStoreBytes (N .shape) u b))
-      {r : Survey} (f : (u : Store) → storeOf t ≡ some u → Noted u s r) where
+      {r : Survey} (f : (u : Store) → storeOf t ≡ some u → Noted (N .shape) u s r) where
     pub noted-ready : ReadySurvey N a leader r
     noted-ready = ready-after N b (g .surveys) (storeOf t) (g .underway .is-next) some-left x f
 

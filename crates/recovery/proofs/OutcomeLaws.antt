@@ -28,7 +28,7 @@ use Rattle.recovery.specs.declared.NextStore.the-variants.{Nothing, Entr
 use Rattle.recovery.specs.declared.Outlook.{Outlook}
 use Rattle.recovery.specs.declared.Outlook.the-variants as outlook
 use Rattle.protocol.proofs.Due.{due-facts}
-use Rattle.protocol.proofs.Keeps.{due-target, due-slot, due-donor}
+use Rattle.protocol.proofs.Keeps.{due-cards, due-target, due-slot, due-donor}
 use Rattle.image.proofs.DecodeLaws.{size-some}
 use Rattle.image.proofs.ClusterLaws.{images-fill}
 use Rattle.protocol.proofs.CallLaws.{accepted, step-refused, step-kept, run-refused, run-kept, step-bytes, run-bytes}
@@ -56,8 +56,8 @@ module _ (N : Numbers) (b : Bytes) (e : refusalIn N b ≡ 0) where
       let u = due-facts (named N) F (storeEntry c k d) (sym x) in
       let low = accepted N b e .low in (
         due-slot (named N) F (storeEntry c k d) (u .is-due),
-        within c (due-target (named N) F (storeEntry c k d) low (u .plan) (u .is-due) .below),
-        within d (due-donor (named N) F c k d low (u .plan) (u .is-due) .below),
+        (due-cards (named N) F c k d (u .plan) (u .is-due) .to, within c (due-target (named N) F (storeEntry c k d) low (u .plan) (u .is-due) .below)),
+        (due-cards (named N) F c k d (u .plan) (u .is-due) .from, within d (due-donor (named N) F c k d low (u .plan) (u .is-due) .below)),
       )
   store-fits (Record c k f) x =
       let F = decode (named N .shape) b in
@@ -73,7 +73,7 @@ module _ (N : Numbers) (b : Bytes) (e : refusalIn N b ≡ 0) where
 -- a larger buffer holds what a smaller one does
 pub fits-more : (Z : Shape) (a b : ℕ) (s : NextStore) → a ≤ b → StoreFits Z a s → StoreFits Z b s
 fits-more Z a b Nothing h f = tt
-fits-more Z a b (Entry c k d) h f = (f .0, omega arith, omega arith)
+fits-more Z a b (Entry c k d) h f = (f .0, (f .1 .0, omega arith), (f .2 .0, omega arith))
 fits-more Z a b (Record c k e) h f = (f .0, omega arith)
 fits-more Z a b (Blank c k) h f = (f .0, omega arith)
 

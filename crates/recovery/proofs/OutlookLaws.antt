@@ -9,7 +9,7 @@ use borrow.Author.Tests.{lt-ltb, le-ltb}
 use Rattle.slices.specs.Parts.{Bytes}
 use Rattle.image.specs.Cluster.{decode}
 use Rattle.planner.specs.Setting.{settingOf}
-use Rattle.planner.specs.Rules.{Waiting, Ready, answer, end, firstWaiting, sameFirsts}
+use Rattle.planner.specs.Rules.{Waiting, Ready, answer, end, firstWaiting, mayLead, sameFirsts}
 use Rattle.planner.specs.Plan.{viewsIn}
 use Rattle.planner.specs.Survey.{SurveyIs, Planned}
 use Rattle.planner.specs.declared.Survey.{Survey}
@@ -40,6 +40,7 @@ module _ (N : Numbers) (b : Bytes) (e : refusalIn N b ≡ 0) {leader : ℕ} {s :
     few = v .few;
     slots-fit = v .slots-fit;
     leader-below = v .leader-below;
+    leader-card = v .leader-card;
     size-is = accepted N b e .size;
     leader-fits = log-is leader (v .leader-below) (v .leader-reads);
     log-fits = λ c h r. log-is c h (sym (v .surveyed .readable-is c h) ∙ r);
@@ -55,8 +56,8 @@ module _ (N : Numbers) (b : Bytes) (e : refusalIn N b ≡ 0) {leader : ℕ} {s :
         let k = v .slots-fit in
         omega arith
 
-    leads : viewsIn (named N) b (named N .leader) .readable ≡ true
-    leads = accepted N b e .readable
+    leads : mayLead (named N) (viewsIn (named N) b) ≡ true
+    leads = accepted N b e .leads
 
     begins : sameFirsts (named N) (viewsIn (named N) b) ≡ true
     begins = accepted N b e .firsts

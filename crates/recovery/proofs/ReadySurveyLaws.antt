@@ -73,7 +73,7 @@ module _ (N : Numbers) (b : Bytes) {leader : ℕ} {s : Survey} (v : ReadySurvey 
       unfolding settingOf
       means = rw y (next-means S low b (accepted N b (v .accepts) .size) u is-next .is)
 
-      views-next : viewsIn S a ≡ viewsAfter u (viewsIn S b)
+      views-next : viewsIn S a ≡ viewsAfter S u (viewsIn S b)
       unfolding viewsIn
       views-next = ap (viewsOf S) means ∙ next-seen S F u is-next
 
@@ -91,11 +91,11 @@ module _ (N : Numbers) (b : Bytes) {leader : ℕ} {s : Survey} (v : ReadySurvey 
           let l : length a ≡ length b = rw y (w .size ∙ sym (accepted N b (v .accepts) .size)) in
           refusal-kept N a b l answer-next (v .accepts)
 
-      ready-noted : {r : Survey} → Noted u s r → ReadySurvey N a leader r
+      ready-noted : {r : Survey} → Noted (N .shape) u s r → ReadySurvey N a leader r
       unfolding settingOf
       ready-noted f = record {
         accepts = accepts-next;
-        sees = rw views-next (f S (viewsIn S b) (N .shape .n) leader replica-below slot-below reads (v .sees));
+        sees = rw views-next (f S (viewsIn S b) (N .shape .n) leader refl replica-below slot-below reads (v .sees));
         ready = ready-intro S (viewsIn S a) (ready-facts S (viewsIn S a) (end S (viewsIn S b)) (answer-next ∙ v .ready));
       }
 
@@ -117,7 +117,7 @@ module _ (N : Numbers) (b : Bytes) {leader : ℕ} {s : Survey} (v : ReadySurvey 
 
   -- the survey that is noted is that of the cluster after the store
   pub ready-after : {a : Bytes} {r : Survey} (o : Option Store) → o ≡ nextIn S b → isSome o ≡ true
-      → a ≡ after o b (λ u. afterStoreBytes (N .shape) u b) → ((u : Store) → o ≡ some u → Noted u s r) → ReadySurvey N a leader r
+      → a ≡ after o b (λ u. afterStoreBytes (N .shape) u b) → ((u : Store) → o ≡ some u → Noted (N .shape) u s r) → ReadySurvey N a leader r
   unfolding isSome after
   ready-after none x h y f = absurd (true≢false (sym h))
   ready-after (some u) x h y f = ready-noted u x _ y (f u refl)

@@ -1,5 +1,5 @@
 -- For proofs only. What the code of `pick` is given of one replica and of a cluster.
-use Prim.Native.Nat.{ℕ, _+_, _*_, _<_, _≤_}
+use Prim.Native.Nat.{ℕ, suc, _+_, _*_, _<_, _≤_}
 use mathlib.Core.Path.{_≡_}
 use mathlib.Core.Bool.{Bool, true, false, cond}
 use mathlib.Core.List.{List}
@@ -7,10 +7,12 @@ use mathlib.Core.Option.{Option, none}
 use lib.ListN.{getD}
 use Rattle.slices.specs.Parts.{Bytes}
 use Rattle.record.specs.declared.Shape.{Shape}
+use Rattle.record.specs.Layout.{isWitness}
 use Rattle.image.specs.View.{View}
 use Rattle.image.specs.View.{conditionNumber}
 use Rattle.image.specs.Cluster.{Cluster, imageAt, decode}
-use Rattle.planner.specs.Setting.{Setting, has, viewsOf}
+use Rattle.search.specs.Sets.{has}
+use Rattle.planner.specs.Setting.{Setting, viewsOf}
 use Rattle.planner.specs.Plan.{viewsIn}
 use Rattle.planner.specs.Survey.{SurveyIs}
 use Rattle.planner.specs.declared.Survey.{Survey}
@@ -29,6 +31,7 @@ pub record InRange (Z : Shape) (leader : ℕ) (s : Survey) (size : ℕ) : Type 0
   pub few : Z .n ≤ 7
   pub slots-fit : Z .m ≤ 64
   pub leader-below : leader < Z .n
+  pub leader-card : isWitness Z (suc leader) ≡ false
   pub size-is : size ≡ imageAt Z (Z .n)
   pub leader-fits : getD (s .lengths) leader 0 ≤ Z .m
   pub log-fits : (c : ℕ) → c < Z .n → has (s .readable) c ≡ true → getD (s .lengths) c 0 ≤ Z .m

@@ -1,14 +1,14 @@
 -- For proofs only. What is seen of the replicas once a store has been made, by what was seen of them before.
 use Prim.Native.Nat.{ℕ, suc, _+_, _*_, _<_}
 use mathlib.Core.Path.{_≡_}
-use mathlib.Core.Bool.{true, cond}
+use mathlib.Core.Bool.{Bool, true, cond}
 use lib.Dec.{ltb}
 use lib.ListN.{length, set}
 use Rattle.search.specs.Put.{put}
 use Rattle.slices.specs.Parts.{Bytes}
 use Rattle.record.specs.declared.Shape.{Shape}
-use Rattle.image.specs.View.{Condition, Unused, Whole, View}
-use Rattle.planner.specs.Setting.{Setting}
+use Rattle.image.specs.View.{Condition, Unused, Whole, View, conditionAs}
+use Rattle.planner.specs.Setting.{Setting, witness}
 use Rattle.planner.specs.Rules.{Ready, answer, end}
 use Rattle.planner.specs.Plan.{viewsIn}
 use Rattle.planner.specs.Survey.{SurveyIs}
@@ -21,15 +21,16 @@ use Rattle.recovery.specs.Answers.{numbers}
 unfoldable pub withSlot : View → ℕ → ℕ → Condition → ℕ → View
 withSlot v k l a e = record { readable = v .readable; first = v .first; length = l; condition = put (v .condition) k a; epoch = put (v .epoch) k e }
 
--- an entry mends a used slot, and is not seen behind the log; a record mends a used slot, or is appended; a blanked record ends the log
-unfoldable pub seenAfter : Store → View → View
-seenAfter (storeEntry c k d) v = cond (ltb k (v .length)) (withSlot v k (v .length) Whole (v .epoch k)) v
-seenAfter (storeRecord c k e) v = withSlot v k (cond (ltb k (v .length)) (v .length) (suc k)) Whole e
-seenAfter (storeBlank c k) v = withSlot v k k Unused 0
+-- an entry mends a used slot, and is not seen behind the log; a record mends a used slot, or is appended, and on a witness it is all there is
+-- of one; a blanked record ends the log
+unfoldable pub seenAfter : Bool → Store → View → View
+seenAfter witness (storeEntry c k d) v = cond (ltb k (v .length)) (withSlot v k (v .length) Whole (v .epoch k)) v
+seenAfter witness (storeRecord c k e) v = withSlot v k (cond (ltb k (v .length)) (v .length) (suc k)) (conditionAs witness Whole) e
+seenAfter witness (storeBlank c k) v = withSlot v k k Unused 0
 
 -- the replicas' views, after a store on one of them
-unfoldable pub viewsAfter : Store → (ℕ → View) → ℕ → View
-viewsAfter s W = put W (storeReplica s) (seenAfter s (W (storeReplica s)))
+unfoldable pub viewsAfter : Setting → Store → (ℕ → View) → ℕ → View
+viewsAfter S s W = put W (storeReplica s) (seenAfter (witness S (storeReplica s)) s (W (storeReplica s)))
 
 -- r is the survey s but for replica c: its log is so long, and its slot k has condition number x and epoch e
 pub record SlotSet (s r : Survey) (c k l x e : ℕ) : Type 0 where
@@ -42,11 +43,11 @@ pub record SlotSet (s r : Survey) (c k l x e : ℕ) : Type 0 where
   pub conditions-sized : length (s .conditions) ≡ 448
   pub epochs-sized : length (s .epochs) ≡ 448
 
--- a survey of the replicas, for whatever views it was one, is r once the store is made
-abbrev pub Noted : Store → Survey → Survey → Type 0
-Noted t s r =
-    (S : Setting) (W : ℕ → View) (n leader : ℕ) → storeReplica t < n → storeSlot t < S .shape .m → W (storeReplica t) .readable ≡ true
-    → SurveyIs S W n leader s → SurveyIs S (viewsAfter t W) n leader r
+-- a survey of the replicas of this shape, for whatever views it was one, is r once the store is made
+abbrev pub Noted : Shape → Store → Survey → Survey → Type 0
+Noted Z t s r =
+    (S : Setting) (W : ℕ → View) (n leader : ℕ) → S .shape ≡ Z → storeReplica t < n → storeSlot t < S .shape .m → W (storeReplica t) .readable ≡ true
+    → SurveyIs S W n leader s → SurveyIs S (viewsAfter S t W) n leader r
 
 -- a survey of a cluster that is not refused, and whose plan is ready; the leader counts from 0
 pub record ReadySurvey (N : Numbers) (b : Bytes) (leader : ℕ) (s : Survey) : Type 0 where

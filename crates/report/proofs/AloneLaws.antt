@@ -13,9 +13,10 @@ use Rattle.search.proofs.CountLaws.{count-none}
 use Rattle.search.proofs.SearchLaws.{lowest-is}
 use Rattle.slices.specs.Parts.{Bytes}
 use Rattle.record.specs.declared.Shape.{Shape}
-use Rattle.image.specs.View.{View, viewOf, isSize}
+use Rattle.image.specs.View.{View, viewOf, seenAs, isSize}
 use Rattle.image.proofs.CallLaws.{size-low}
-use Rattle.planner.specs.Setting.{Setting, has, settingOf, viewsOf}
+use Rattle.search.specs.Sets.{has}
+use Rattle.planner.specs.Setting.{Setting, settingOf, viewsOf}
 use Rattle.planner.specs.Rules.{isFaulty, isTruncate, Wait, mayTruncate, answers, have, dontHave, donor, rule, end}
 use Rattle.planner.specs.Plan.{viewsIn, keptByte, ruleByte, planByte}
 use Rattle.planner.proofs.MajorityLaws.{majority-least, waits-if}
@@ -56,7 +57,7 @@ module _ (Z : Shape) (leader : ℕ) (b : Bytes) (sized : isSize (Z .n) ≡ true)
   W = viewsIn S b
 
   silent : (c : ℕ) → answers S W c ≡ false
-  unfolding answers viewsIn viewsOf viewOf settingOf
+  unfolding answers viewsIn viewsOf seenAs viewOf settingOf
   silent c = rw (one-member (pred leader) c) (go (eqb c (pred leader)) _)
     where
       go : (t x : Bool) → (not t && (t && x)) ≡ false

@@ -81,7 +81,7 @@ module _ (Z : Shape) (leader : ℕ) (set b : Bytes) (four : length set ≡ 4) wh
 module _ (Z : Shape) (leader : ℕ) (b : Bytes) (w : Writable Z leader b) where
   -- it names n and m alone
   own-shape : firstEdition (Z .n) (Z .m) ≡ Z
-  own-shape = λ i. record { n = Z .n; m = Z .m; edition = sym (w .edition-one) i }
+  own-shape = λ i. record { n = Z .n; m = Z .m; edition = sym (w .edition-one) i; witnesses = sym (w .no-witnesses) i }
 
   pub printed-blank : {x : ℕ} → x ≡ presentOf (Z .n) leader LeaderAlone → reportOf (inputOf Z leader blankSet b) ≡ clusterReport Z leader x b
   unfolding commandReport

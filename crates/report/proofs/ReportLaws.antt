@@ -14,7 +14,8 @@ use Rattle.slices.specs.Parts.{Bytes}
 use Rattle.record.specs.declared.Shape.{Shape}
 use Rattle.image.specs.View.{View}
 use Rattle.planner.specs.Setting.{Setting, settingOf}
-use Rattle.planner.specs.Rules.{answer}
+use Rattle.planner.specs.Rules.{mayLead, answer}
+use Rattle.planner.proofs.CallLaws.{lead-intro}
 use Rattle.planner.specs.Plan.{viewsIn, planByte, planBytes, clusterRefusal}
 use Rattle.planner.specs.Survey.{SurveyOf, Planned}
 use Rattle.report.specs.Command.{commandLine, presentOf}
@@ -30,8 +31,8 @@ prints e h = record { fits = h .fits; bytes = h .bytes ∙ e }
 module _
     (S : Setting) (W : ℕ → View) {n at readable : ℕ} {firsts lengths conditions epochs : List ℕ} (s : SurveyOf S W n at readable firsts lengths conditions epochs)
     {bytes : List ℕ} {final waiting : ℕ} (p : Planned S W bytes final waiting) where
-  reads : W (S .leader) .readable ≡ true
-  reads = rw (s .leader-is) (s .leader-reads)
+  leads : mayLead S W ≡ true
+  leads = lead-intro S W (rw (s .leader-is) (s .leader-reads)) (rw (s .leader-is) (s .leader-card))
 
   plan-byte : (k : ℕ) → k < S .shape .m → getD bytes k 0 ≡ planByte S W k
   unfolding planBytes
@@ -54,13 +55,13 @@ module _
       → headLine n leader 1 (waiting + 1) ++ joined (getD lengths at 0) (lineFrom epochs (at * 64) bytes) ≡ planLines n leader S W
   unfolding planLines answer statusOf numberOf
   waiting-lines leader h =
-      rw (reads, s .same-firsts, ← p .waiting-is, ← p .end-is, lt-ltb _ _ h, add-one) (ap (λ (x : Bytes). headLine n leader 1 (suc waiting) ++ x) lines-are)
+      rw (leads, s .same-firsts, ← p .waiting-is, ← p .end-is, lt-ltb _ _ h, add-one) (ap (λ (x : Bytes). headLine n leader 1 (suc waiting) ++ x) lines-are)
 
   pub ready-lines : (leader : ℕ) → final ≤ waiting
       → headLine n leader 0 final ++ joined (getD lengths at 0) (lineFrom epochs (at * 64) bytes) ≡ planLines n leader S W
   unfolding planLines answer statusOf numberOf
   ready-lines leader h =
-      rw (reads, s .same-firsts, ← p .waiting-is, ← p .end-is, le-ltb _ _ h) (ap (λ (x : Bytes). headLine n leader 0 final ++ x) lines-are)
+      rw (leads, s .same-firsts, ← p .waiting-is, ← p .end-is, le-ltb _ _ h) (ap (λ (x : Bytes). headLine n leader 0 final ++ x) lines-are)
 
 -- ---- which line is printed for an input
 

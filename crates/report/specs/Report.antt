@@ -58,9 +58,9 @@ clusterReport Z leader present b =
     (planLines (Z .n) leader (settingOf Z leader present) (viewsIn (settingOf Z leader present) b))
     (refusedLine (clusterRefusal Z leader present b))
 
--- the printing program stays with edition 1 (02, Six)
+-- the printing program stays with edition 1 (02, Six), and knows of no witnesses
 abbrev pub firstEdition : ℕ → ℕ → Shape
-firstEdition n m = record { n = n; m = m; edition = 1 }
+firstEdition n m = record { n = n; m = m; edition = 1; witnesses = 0 }
 
 -- a command line that is not well formed is refused by 14
 unfoldable pub commandReport : Command → Bytes → Bytes

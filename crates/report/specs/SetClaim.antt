@@ -11,7 +11,8 @@ use Rattle.record.specs.declared.Shape.{Shape}
 use Rattle.image.specs.Refusal.{refuse, _else_}
 use Rattle.image.specs.View.{isSize, isReplica, isSlots}
 use Rattle.image.specs.Cluster.{imageAt}
-use Rattle.planner.specs.Setting.{Setting, has, settingOf}
+use Rattle.search.specs.Sets.{has}
+use Rattle.planner.specs.Setting.{Setting, settingOf}
 use Rattle.planner.specs.Rules.{isFaulty, end}
 use Rattle.planner.specs.Plan.{viewsIn, keptByte, planByte}
 use Rattle.report.specs.Report.{refusedLine, clusterReport, reportOf}
@@ -24,9 +25,10 @@ inputOf Z leader set b = (column 3 (Z .n) ++ (column 3 (Z .m) ++ (column 3 leade
 abbrev pub blankSet : Bytes
 blankSet = replicate 4 32
 
--- the shape is of edition 1, the numbers fit their columns, and the input is at most 65,536 bytes long
+-- the shape is of edition 1 without witnesses, the numbers fit their columns, and the input is at most 65,536 bytes long
 pub record Writable (Z : Shape) (leader : ℕ) (b : Bytes) : Type 0 where
   pub edition-one : Z .edition ≡ 1
+  pub no-witnesses : Z .witnesses ≡ 0
   pub n-fits : Z .n < 1000
   pub m-fits : Z .m < 1000
   pub leader-fits : leader < 1000

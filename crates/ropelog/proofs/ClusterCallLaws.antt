@@ -15,7 +15,7 @@ use Rattle.image.specs.Refusal.{unlessRefused}
 use Rattle.image.specs.Answers.{Numbered}
 use Rattle.image.specs.Answers as numbered
 use Rattle.planner.specs.Answers.{planNumbers, answerNumbers, planNumbered}
-use Rattle.planner.proofs.CallLaws.{leader-accepted, firsts-accepted}
+use Rattle.planner.proofs.CallLaws.{lead-accepted, firsts-accepted}
 use Rattle.planner.specs.declared.ReplicaRow.{ReplicaRow}
 use Rattle.planner.specs.declared.PlanAnswer.{PlanAnswer}
 use Rattle.protocol.specs.Call.{plan}
@@ -36,7 +36,7 @@ has-answer :
     ⊥
 unfolding planRefusal lentRefusal settingOf
 has-answer Z leader present b bytes rows e =
-    let z = else-zero-l _ _ e in not-refused (settingOf Z leader present) b (leader-accepted Z leader present b z .1) (firsts-accepted Z leader present b z)
+    let z = else-zero-l _ _ e in not-refused (settingOf Z leader present) b (lead-accepted Z leader present b z) (firsts-accepted Z leader present b z)
 
 -- ---- planning
 

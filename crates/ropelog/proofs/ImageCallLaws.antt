@@ -60,32 +60,49 @@ module _ (refusal slot : ℕ) (after new : Bytes) (written : after ≡ new) (old
   unfolding unlessRefused
   append-done x h o = let a = answered refusal slot x h in (a .0, written, o ∙ a .1)
 
-  pub append-refused : (x : ℕ) → refused x ≡ numbered refusal slot → (x ≡ refusal) × (after ≡ new) × (old ≡ unlessRefused x slot old)
+  pub append-refused : (x : ℕ) → refused x ≡ numbered refusal slot → {out : ℕ} → out ≡ x → (out ≡ refusal) × (after ≡ new) × (old ≡ unlessRefused out slot old)
   unfolding unlessRefused
-  append-refused x h = let a = denied refusal slot x h in (a .0, written, rw (a .1))
+  append-refused x h o = let a = denied refusal slot x h in (o ∙ a .0, written, rw (o, a .1))
 
--- ---- reading
+-- ---- reading: of a witness what is filled, its epochs, and of a card its verdicts too
 
-module _ (refusal used first : ℕ) (e es e′ v vs v′ : Bytes) (epochs : e′ ≡ unlessRefused refusal e es) (verdicts : v′ ≡ unlessRefused refusal v vs) (old-used old-first : ℕ) where
-  pub read-done :
+module _ (refusal used first : ℕ) (e es e′ : Bytes) (epochs : e′ ≡ unlessRefused refusal e es) (old-used old-first : ℕ) where
+  pub witness-done :
       (len begins : ℕ) →
       _≡_ {A = Numbered (ℕ × ℕ)} (value (len, begins)) (numbered refusal (used, first)) →
       {last-used last-first : ℕ} → last-used ≡ len → last-first ≡ begins →
-      (0 ≡ refusal) × (e′ ≡ unlessRefused 0 e es) × (v′ ≡ unlessRefused 0 v vs) × (last-used ≡ unlessRefused 0 used old-used) × (last-first ≡ unlessRefused 0 first old-first)
+      (0 ≡ refusal) × (e′ ≡ unlessRefused 0 e es) × (last-used ≡ unlessRefused 0 used old-used) × (last-first ≡ unlessRefused 0 first old-first)
   unfolding unlessRefused
-  read-done len begins h p q =
+  witness-done len begins h p q =
       let a = answered refusal (used, first) (len, begins) h in
-      (a .0, epochs ∙ rw (← a .0), verdicts ∙ rw (← a .0), p ∙ ap (λ (z : ℕ × ℕ). z .0) (a .1), q ∙ ap (λ (z : ℕ × ℕ). z .1) (a .1))
+      (a .0, epochs ∙ rw (← a .0), p ∙ ap (λ (z : ℕ × ℕ). z .0) (a .1), q ∙ ap (λ (z : ℕ × ℕ). z .1) (a .1))
 
-  pub read-refused :
+  pub witness-refused :
       (x : ℕ) →
       _≡_ {A = Numbered (ℕ × ℕ)} (refused x) (numbered refusal (used, first)) →
       {last-used last-first : ℕ} → last-used ≡ old-used → last-first ≡ old-first →
-      (x ≡ refusal) × (e′ ≡ unlessRefused x e es) × (v′ ≡ unlessRefused x v vs) × (last-used ≡ unlessRefused x used old-used) × (last-first ≡ unlessRefused x first old-first)
+      (x ≡ refusal) × (e′ ≡ unlessRefused x e es) × (last-used ≡ unlessRefused x used old-used) × (last-first ≡ unlessRefused x first old-first)
   unfolding unlessRefused
-  read-refused x h p q =
+  witness-refused x h p q =
       let a = denied refusal (used, first) x h in
-      (a .0, epochs ∙ rw (← a .0), verdicts ∙ rw (← a .0), p ∙ rw (a .1), q ∙ rw (a .1))
+      (a .0, epochs ∙ rw (← a .0), p ∙ rw (a .1), q ∙ rw (a .1))
+
+  module _ (v vs v′ : Bytes) (verdicts : v′ ≡ unlessRefused refusal v vs) where
+    pub read-done :
+        (len begins : ℕ) →
+        _≡_ {A = Numbered (ℕ × ℕ)} (value (len, begins)) (numbered refusal (used, first)) →
+        {last-used last-first : ℕ} → last-used ≡ len → last-first ≡ begins →
+        (0 ≡ refusal) × (e′ ≡ unlessRefused 0 e es) × (v′ ≡ unlessRefused 0 v vs) × (last-used ≡ unlessRefused 0 used old-used) × (last-first ≡ unlessRefused 0 first old-first)
+    unfolding unlessRefused
+    read-done len begins h p q = let a = witness-done len begins h p q in (a .0, a .1, verdicts ∙ rw (← a .0), a .2, a .3)
+
+    pub read-refused :
+        (x : ℕ) →
+        _≡_ {A = Numbered (ℕ × ℕ)} (refused x) (numbered refusal (used, first)) →
+        {last-used last-first : ℕ} → last-used ≡ old-used → last-first ≡ old-first →
+        (x ≡ refusal) × (e′ ≡ unlessRefused x e es) × (v′ ≡ unlessRefused x v vs) × (last-used ≡ unlessRefused x used old-used) × (last-first ≡ unlessRefused x first old-first)
+    unfolding unlessRefused
+    read-refused x h p q = let a = witness-refused x h p q in (a .0, a .1, verdicts ∙ rw (← a .0), a .2, a .3)
 
 -- ---- whether there is a payload
 

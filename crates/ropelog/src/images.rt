@@ -4,7 +4,7 @@ ghost use mathlib.Core.Path.{_≡_};
 ghost use lib.ListN.{length};
 ghost use Rattle.slices.specs.Parts.{part};
 ghost use Rattle.image.specs.Image.{firstIn, decodeImage};
-ghost use Rattle.image.specs.View.{readRefusal, logLength};
+ghost use Rattle.image.specs.View.{cardRefusal, logLength};
 ghost use Rattle.image.specs.Read.{lentRefusal, epochsOf, verdictsOf, hasPayload, payloadOf, payloadAt};
 ghost use Rattle.image.specs.Append.{formatRefusal, appendRefusal, appended, formatted};
 ghost use Rattle.image.specs.Refusal.{unlessRefused};
@@ -86,7 +86,7 @@ pub extern "C" fn rope_has_payload(
     slot: usize,
     has: &mut u8,
 ) -> u8
-    ensures { λ r. ⌜ (r ≡ readRefusal shape replica (now (image .entry)))
+    ensures { λ r. ⌜ (r ≡ cardRefusal shape replica (now (image .entry)))
         × (now (has .exit) ≡ unlessRefused r (flag (hasPayload (shape .m) (decodeImage shape replica (now (image .entry))) slot)) (now (has .entry))) ⌝ }
 {
     match read::has_payload(image, shape, replica, slot) {

@@ -95,7 +95,7 @@ pub fn run_cluster(
         let first = survey.firsts[leader];
         make_store(cluster, shape, first, store);
         made += 1;
-        survey = note_store(survey, store);
+        survey = note_store(survey, shape, store);
         store = next_store(cluster, survey, shape, leader, made_on(store));
     }
     run_answer(store, made)

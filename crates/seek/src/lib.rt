@@ -11,7 +11,7 @@ ghost use Rattle.slices.specs.Same.{same};
 ghost use Rattle.record.specs.Layout.{entrySize};
 ghost use Rattle.image.specs.Image.{entryAt};
 ghost use Rattle.image.specs.Cluster.{imageAt};
-ghost use Rattle.image.specs.Fits.{ImageFits};
+ghost use Rattle.recovery.specs.NextStore.{CardFits};
 use image::MAX_SLOTS;
 use locate::ENTRY_SIZE;
 use locate::entry_in;
@@ -75,10 +75,10 @@ pub fn first_differing(
     k
 }
 
-// Whether the entry of slot k of replica c differs from the leader's in any byte.
+// Whether the entry of slot k of replica c differs from the leader's in any byte. Both are cards.
 pub fn entry_differs(cluster: &[u8], shape: Shape, leader: usize, c: usize, k: usize) -> bool
     requires { ⌜ (shape .m ≤ 64) × (k < shape .m) ⌝ }
-    requires { ⌜ ImageFits shape (length (now cluster)) c × ImageFits shape (length (now cluster)) leader ⌝ }
+    requires { ⌜ CardFits shape (length (now cluster)) c × CardFits shape (length (now cluster)) leader ⌝ }
     ensures { λ r. ⌜ r ≡ not (same (part (now (cluster .entry)) (imageAt shape c + entryAt shape k) entrySize)
         (part (now (cluster .entry)) (imageAt shape leader + entryAt shape k) entrySize)) ⌝ }
 {

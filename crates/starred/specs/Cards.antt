@@ -16,10 +16,10 @@ scratch = replicate 34 9
 
 -- n replicas with one slot and with two
 abbrev pub withOne : ℕ → Shape
-withOne n = record { n = n; m = 1; edition = 1 }
+withOne n = record { n = n; m = 1; edition = 1; witnesses = 0 }
 
 abbrev pub withTwo : ℕ → Shape
-withTwo n = record { n = n; m = 2; edition = 1 }
+withTwo n = record { n = n; m = 2; edition = 1; witnesses = 0 }
 
 -- slot k under epoch e, as written
 unfoldable pub whole : ℕ → ℕ → Bytes

@@ -9,7 +9,7 @@ ghost use Rattle.image.specs.Cluster.{imageAt};
 ghost use Rattle.protocol.specs.Recovery.{after};
 ghost use Rattle.protocol.specs.StepBytes.{afterStoreBytes};
 ghost use Rattle.image.specs.Fits.{ImageFits};
-ghost use Rattle.recovery.specs.NextStore.{storeOf, StoreFits, BeginsAt};
+ghost use Rattle.recovery.specs.NextStore.{storeOf, CardFits, StoreFits, BeginsAt};
 use locate::ENTRY_SIZE;
 use locate::entry_in;
 use locate::index_of;
@@ -31,9 +31,9 @@ fn load_entry(s: &[u8]) -> [u8; ENTRY_SIZE]
     entry
 }
 
-// Writes the donor's entry of slot k over that of replica c.
+// Writes the donor's entry of slot k over that of replica c. Both are cards.
 fn copy_entry(cluster: &mut [u8], shape: Shape, c: usize, k: usize, donor: usize)
-    requires { ⌜ (shape .m ≤ 64) × (k < shape .m) × ImageFits shape (length (now cluster)) c × ImageFits shape (length (now cluster)) donor ⌝ }
+    requires { ⌜ (shape .m ≤ 64) × (k < shape .m) × CardFits shape (length (now cluster)) c × CardFits shape (length (now cluster)) donor ⌝ }
     ensures { λ _. ⌜ now (cluster .exit) ≡ spliced (now (cluster .entry)) (imageAt shape c + entryAt shape k)
         (part (now (cluster .entry)) (imageAt shape donor + entryAt shape k) entrySize) ⌝ }
 {

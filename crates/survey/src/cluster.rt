@@ -1,13 +1,13 @@
 // A cluster's refusals, and its survey. Planning, step and run share them.
-ghost use Prim.Native.Nat.{pred, _-_, _<_, _≤_};
+ghost use Prim.Native.Nat.{_-_, _<_, _≤_};
 ghost use mathlib.Core.Path.{_≡_};
-ghost use Rattle.planner.specs.Setting.{has, settingOf};
-ghost use mathlib.Core.Bool.{not, _&&_};
+ghost use Rattle.planner.specs.Setting.{settingOf};
+ghost use mathlib.Core.Bool.{not};
 ghost use Rattle.image.specs.Refusal.{refuse};
-ghost use Rattle.image.specs.View.{isReplica};
 ghost use Rattle.planner.specs.Plan.{viewsIn, shapeRefusal, clusterRefusal};
-ghost use Rattle.planner.specs.Survey.{sameNumbers, SurveyIs};
+ghost use Rattle.planner.specs.Survey.{leaderTest, sameNumbers, SurveyIs};
 use crate::sets::contains;
+use crate::sets::is_within;
 use crate::survey_cluster;
 use image::MAX_REPLICAS;
 use image::MAX_SLOTS;
@@ -22,7 +22,7 @@ pub struct ClusterView {
     pub survey: Survey,
 }
 
-// Refusals 1, 2, 3 and 11: what is named, and the size of the buffer.
+// Refusals 1, 2, 3, 11 and 22: what is named, and the size of the buffer.
 fn shape_refusal(size: usize, shape: Shape, present: u32) -> u8
     ensures { λ r. ⌜ r ≡ shapeRefusal shape present size ⌝ }
 {
@@ -41,16 +41,19 @@ fn shape_refusal(size: usize, shape: Shape, present: u32) -> u8
     if size != image_at(shape, shape.n) {
         return 3;
     }
-    if (present >> shape.n) != 0 {
+    if !is_within(present, shape.n) {
         return 11;
+    }
+    if !is_within(shape.witnesses, shape.n) {
+        return 22;
     }
     0
 }
 
-// Refusal 12: the leader's number, from 1, is out of range, or the replica is not readable.
-fn leader_refusal(readable: u32, n: usize, leading: usize) -> u8
+// Refusal 12: the leader's number, from 1, is out of range, or the replica is not readable, or a witness.
+fn leader_refusal(readable: u32, witnesses: u32, n: usize, leading: usize) -> u8
     requires { ⌜ n ≤ 7 ⌝ }
-    ensures { λ r. ⌜ r ≡ refuse 12 (not (isReplica n leading && has readable (pred leading))) ⌝ }
+    ensures { λ r. ⌜ r ≡ leaderTest readable witnesses n leading ⌝ }
 {
     if leading < 1 {
         return 12;
@@ -59,6 +62,9 @@ fn leader_refusal(readable: u32, n: usize, leading: usize) -> u8
         return 12;
     }
     if !contains(readable, leading - 1) {
+        return 12;
+    }
+    if contains(witnesses, leading - 1) {
         return 12;
     }
     0
@@ -109,7 +115,7 @@ pub fn view_cluster(cluster: &[u8], shape: Shape, leading: usize, present: u32) 
     }
     let survey = survey_cluster(cluster, shape, present);
     let n = shape.n;
-    let unled = leader_refusal(survey.readable, n, leading);
+    let unled = leader_refusal(survey.readable, shape.witnesses, n, leading);
     if unled != 0 {
         return ClusterView {
             refusal: unled,

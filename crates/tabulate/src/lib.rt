@@ -3,7 +3,7 @@ ghost use Prim.Native.Nat.{ℕ, _<_, _≤_};
 ghost use mathlib.Core.Path.{_≡_};
 ghost use mathlib.Core.Bool.{true};
 ghost use lib.ListN.{length, getD, take};
-ghost use Rattle.planner.specs.Setting.{has};
+ghost use Rattle.search.specs.Sets.{has};
 ghost use Rattle.planner.specs.Tabulated.{numberRow, noRow, frontRows};
 ghost use Rattle.search.specs.Search.{listed};
 use image::MAX_REPLICAS;

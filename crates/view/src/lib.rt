@@ -1,14 +1,15 @@
 // What is seen of an image: the condition and epoch of each slot, the length of its log, and whether it is refused.
 ghost use Prim.Native.Nat.{ℕ, _+_, _-_, _<_, _≤_};
 ghost use mathlib.Core.Path.{_≡_};
-ghost use mathlib.Core.Bool.{true, cond, _||_};
+ghost use mathlib.Core.Bool.{true, false, cond, _||_};
 ghost use mathlib.Core.List.{List};
 ghost use lib.Dec.{eqb};
 ghost use lib.ListN.{length, getD};
+ghost use Rattle.record.specs.Layout.{isWitness};
 ghost use Rattle.record.specs.Meaning.{Entry, good, bad};
 ghost use Rattle.record.specs.Judged.{recordAnswer, entryAnswer};
-ghost use Rattle.image.specs.Image.{imageSize, entryAt, decodeUnder, decodeImage};
-ghost use Rattle.image.specs.View.{isSlots, imageRefusal, readRefusal};
+ghost use Rattle.image.specs.Image.{imageSize, recordAt, entryAt, decodeUnder, decodeImage};
+ghost use Rattle.image.specs.View.{isSlots, imageRefusal, readRefusal, cardRefusal, witnessRefusal};
 ghost use Rattle.image.specs.Seen.{Seen};
 ghost use Rattle.image.specs.Scan.{SlotIs, Scanned};
 use image::MAX_SLOTS;
@@ -18,6 +19,7 @@ use locate::RECORD_SIZE;
 use locate::entry_at;
 use locate::header_size;
 use locate::index_of;
+use locate::is_witness;
 use locate::record_at;
 use record::EntryState;
 use record::HeaderState;
@@ -25,6 +27,7 @@ use record::RecordState;
 use record::Shape;
 use vet::call_refusal;
 use vet::log_length;
+use vet::named_refusal;
 use vet::scan_refusal;
 
 // One slot as the scan sees it: its condition's number and its epoch.
@@ -51,7 +54,7 @@ pub struct ImageView {
 
 // The record of slot k, of a log whose first slot has index `first`.
 fn record_state(image: &[u8], shape: Shape, first: u32, k: usize) -> RecordState
-    requires { ⌜ (shape .m ≤ 64) × (k < shape .m) × (entryAt shape (shape .m) ≤ length (now image)) ⌝ }
+    requires { ⌜ (shape .m ≤ 64) × (k < shape .m) × (recordAt shape (shape .m) ≤ length (now image)) ⌝ }
     ensures { λ r. ⌜ ((c : ℕ) → r ≡ recordAnswer (decodeUnder shape c first (now (image .entry)) .records k)) ⌝ }
 {
     let a = record_at(shape, k);
@@ -59,14 +62,26 @@ fn record_state(image: &[u8], shape: Shape, first: u32, k: usize) -> RecordState
     judge::judge_record(&image[a..e], index_of(first, k))
 }
 
-// The entry of slot k, judged by the part of the image that begins at its own start.
+// The entry of slot k of a card, judged by the part of the image that begins at its own start.
 pub fn entry_state(image: &[u8], shape: Shape, first: u32, k: usize) -> EntryState
     requires { ⌜ (shape .m ≤ 64) × (k < shape .m) × (entryAt shape (shape .m) ≤ length (now image)) ⌝ }
-    ensures { λ r. ⌜ ((c : ℕ) → r ≡ entryAnswer (decodeUnder shape c first (now (image .entry)) .entries k)) ⌝ }
+    ensures { λ r. ⌜ ((c : ℕ) → isWitness shape c ≡ false
+        → r ≡ entryAnswer (decodeUnder shape c first (now (image .entry)) .entries k)) ⌝ }
 {
     let a = entry_at(shape, k);
     let e = a + ENTRY_SIZE;
     judge::judge_entry(&image[a..e], index_of(first, k))
+}
+
+// The entry of slot k of a replica. A witness has none, which is none that is intact (document 02, Seven).
+fn entry_of(image: &[u8], shape: Shape, replica: usize, first: u32, k: usize) -> EntryState
+    requires { ⌜ (shape .m ≤ 64) × (k < shape .m) × (length (now image) ≡ imageSize shape replica) ⌝ }
+    ensures { λ r. ⌜ r ≡ entryAnswer (decodeUnder shape replica first (now (image .entry)) .entries k) ⌝ }
+{
+    if is_witness(shape, replica) {
+        return EntryState::Broken;
+    }
+    entry_state(image, shape, first, k)
 }
 
 // A slot whose record is good: whole if its entry is intact and of the same epoch, else faulty.
@@ -112,10 +127,10 @@ fn bad_slot(entry: EntryState) -> Slot
 }
 
 // One slot of the scan. A blank record's entry is not judged.
-fn slot_at(image: &[u8], shape: Shape, first: u32, k: usize) -> Slot
-    requires { ⌜ (shape .m ≤ 64) × (k < shape .m) × (entryAt shape (shape .m) ≤ length (now image)) ⌝ }
-    ensures { λ r. ⌜ ((c : ℕ) → SlotIs (decodeUnder shape c first (now (image .entry)) .records k)
-        (decodeUnder shape c first (now (image .entry)) .entries k) (r .condition) (r .epoch)) ⌝ }
+fn slot_at(image: &[u8], shape: Shape, replica: usize, first: u32, k: usize) -> Slot
+    requires { ⌜ (shape .m ≤ 64) × (k < shape .m) × (length (now image) ≡ imageSize shape replica) ⌝ }
+    ensures { λ r. ⌜ SlotIs (decodeUnder shape replica first (now (image .entry)) .records k)
+        (decodeUnder shape replica first (now (image .entry)) .entries k) (r .condition) (r .epoch) ⌝ }
 {
     let record = record_state(image, shape, first, k);
     let RecordState::Good(epoch) = record else {
@@ -125,22 +140,22 @@ fn slot_at(image: &[u8], shape: Shape, first: u32, k: usize) -> Slot
                 epoch: 0,
             };
         }
-        return bad_slot(entry_state(image, shape, first, k));
+        return bad_slot(entry_of(image, shape, replica, first, k));
     };
-    good_slot(epoch, entry_state(image, shape, first, k))
+    good_slot(epoch, entry_of(image, shape, replica, first, k))
 }
 
 // Every slot of an image.
-fn scan(image: &[u8], shape: Shape, first: u32) -> Slots
-    requires { ⌜ (shape .m ≤ 64) × (entryAt shape (shape .m) ≤ length (now image)) ⌝ }
-    ensures { λ r. ⌜ ((c : ℕ) → Scanned (shape .m) (decodeUnder shape c first (now (image .entry))) (r .conditions) (r .epochs)) ⌝ }
+fn scan(image: &[u8], shape: Shape, replica: usize, first: u32) -> Slots
+    requires { ⌜ (shape .m ≤ 64) × (length (now image) ≡ imageSize shape replica) ⌝ }
+    ensures { λ r. ⌜ Scanned (shape .m) (decodeUnder shape replica first (now (image .entry))) (r .conditions) (r .epochs) ⌝ }
 {
     let m = shape.m;
     let mut conditions = [condition::UNUSED; MAX_SLOTS];
     let mut epochs = [0u32; MAX_SLOTS];
     let mut k: usize = 0;
     while k < m {
-        let slot = slot_at(image, shape, first, k);
+        let slot = slot_at(image, shape, replica, first, k);
         conditions[k] = slot.condition;
         epochs[k] = slot.epoch;
         k += 1;
@@ -173,7 +188,7 @@ pub fn view_image(image: &[u8], shape: Shape, replica: usize) -> ImageView
     let HeaderState::Proper(first) = judge::judge_header(&image[0..e], shape, replica) else {
         return refused_view(4);
     };
-    let seen = scan(image, shape, first);
+    let seen = scan(image, shape, replica, first);
     let conditions = seen.conditions;
     let epochs = seen.epochs;
     let length = log_length(&conditions, m);
@@ -198,6 +213,40 @@ pub fn open_image(image: &[u8], shape: Shape, replica: usize) -> ImageView
         return refused_view(refusal);
     }
     view_image(image, shape, replica)
+}
+
+// Views an image as a call for cards names it: a witness has no card, which is 3.
+pub fn open_card(image: &[u8], shape: Shape, replica: usize) -> ImageView
+    ensures refusal { λ r. ⌜ r .refusal ≡ cardRefusal shape replica (now (image .entry)) ⌝ }
+    ensures seen { λ r. ⌜ (r .refusal ≡ 0
+        → Seen (shape .m) (decodeImage shape replica (now (image .entry))) (r .first) (r .length) (r .conditions) (r .epochs)) ⌝ }
+{
+    let named = named_refusal(shape, replica);
+    if named != 0 {
+        return refused_view(named);
+    }
+    let other = is_witness(shape, replica);
+    if other {
+        return refused_view(3);
+    }
+    open_image(image, shape, replica)
+}
+
+// Views an image as a call for witnesses names it: any other replica has a card, which is 3.
+pub fn open_witness(image: &[u8], shape: Shape, replica: usize) -> ImageView
+    ensures refusal { λ r. ⌜ r .refusal ≡ witnessRefusal shape replica (now (image .entry)) ⌝ }
+    ensures seen { λ r. ⌜ (r .refusal ≡ 0
+        → Seen (shape .m) (decodeImage shape replica (now (image .entry))) (r .first) (r .length) (r .conditions) (r .epochs)) ⌝ }
+{
+    let unnamed = named_refusal(shape, replica);
+    if unnamed != 0 {
+        return refused_view(unnamed);
+    }
+    let witness = is_witness(shape, replica);
+    if !witness {
+        return refused_view(3);
+    }
+    open_image(image, shape, replica)
 }
 
 // Whether a condition is whole, its record lost or not.

@@ -3,7 +3,7 @@ ghost use Prim.Native.Nat.{_+_, _≤_};
 ghost use mathlib.Core.Path.{_≡_};
 ghost use lib.ListN.{length, take};
 ghost use Rattle.slices.specs.Parts.{spliced};
-ghost use Rattle.record.specs.Layout.{headerSize, recordSize, entrySize, maxPayload, headerBytes, recordBytes, blankRecord, entryBytes, freshEntry};
+ghost use Rattle.record.specs.Layout.{headerWord, headerSize, recordSize, entrySize, maxPayload, headerBytes, recordBytes, blankRecord, entryBytes, freshEntry};
 ghost use Rattle.record.specs.Seal.{headerFront, sealOf};
 use locate::BLANK_SIZE;
 use locate::EDITION_AT;
@@ -23,6 +23,7 @@ use locate::SLOTS_AT;
 use locate::SMALL_WIDTH;
 use locate::gives_first;
 use locate::header_size;
+use locate::is_witness;
 use record::Shape;
 
 // Writes the checksum of what stands before `at`, and a newline.
@@ -35,12 +36,24 @@ fn put_seal(s: &mut [u8], at: usize)
     s[at + NUMBER_WIDTH] = b'\n';
 }
 
+// Writes the word that a header begins with: a card's, or a witness's (document 02, Seven).
+fn put_word(s: &mut [u8], shape: Shape, replica: usize)
+    requires { ⌜ 16 ≤ length (now s) ⌝ }
+    ensures { λ _. ⌜ now (s .exit) ≡ spliced (now (s .entry)) 0 (headerWord shape replica) ⌝ }
+{
+    if is_witness(shape, replica) {
+        copy::put_bytes(s, 0, b"wits");
+        return;
+    }
+    copy::put_bytes(s, 0, b"rope");
+}
+
 // Writes what a header begins with: its word, the edition, the replica, n and m.
 fn put_front(s: &mut [u8], shape: Shape, replica: usize)
     requires { ⌜ 16 ≤ length (now s) ⌝ }
     ensures { λ _. ⌜ take 16 (now (s .exit)) ≡ headerFront shape replica ⌝ }
 {
-    copy::put_bytes(s, 0, b"rope");
+    put_word(s, shape, replica);
     spell::put_number(s, EDITION_AT, SMALL_WIDTH, shape.edition as u64);
     spell::put_number(s, REPLICA_AT, SMALL_WIDTH, replica as u64);
     spell::put_number(s, REPLICAS_AT, SMALL_WIDTH, shape.n as u64);

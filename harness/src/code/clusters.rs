@@ -8,9 +8,50 @@ use crate::proved::clusters;
 pub type Planned = (Result<Answer, Refusal>, Vec<u8>, Vec<ReplicaRow>);
 
 /// What each byte of a plan is before the call.
-pub const UNPLANNED: u8 = 77;
+const UNPLANNED: u8 = 77;
+
+/// Replica, slot and kind of each store, and the answer of the step that makes none.
+pub type Stores = (Vec<(usize, usize, StoreKind)>, Result<StepAnswer, Refusal>);
 
 impl Code {
+    /// The number of the refusal that plan, step and run share, if they are refused; none of them changes
+    /// anything then.
+    pub fn refused_by(
+        &self,
+        cluster: &[u8],
+        shape: Shape,
+        leader: usize,
+        present: u32,
+    ) -> Option<u8> {
+        let (answer, plan, rows) = self.planned(cluster, shape, leader, present);
+        let refusal = answer.err()?;
+        assert!(plan.iter().all(|&byte| byte == UNPLANNED));
+        assert!(rows.iter().all(|&row| row == ReplicaRow::default()));
+        let mut copy = cluster.to_vec();
+        assert_eq!(self.step(&mut copy, shape, leader, present), Err(refusal));
+        assert_eq!(self.run(&mut copy, shape, leader, present, 9), Err(refusal));
+        assert_eq!(copy, cluster);
+        Some(refusal.number())
+    }
+
+    /// Steps until none makes a store.
+    pub fn stores(&self, cluster: &mut [u8], shape: Shape, leader: usize, present: u32) -> Stores {
+        let mut made = Vec::new();
+        loop {
+            let answer = self.step(cluster, shape, leader, present);
+            let Ok(StepAnswer::Store {
+                replica,
+                slot,
+                kind,
+            }) = answer
+            else {
+                return (made, answer);
+            };
+            made.push((replica, slot, kind));
+            assert!(made.len() <= 3 * shape.n * shape.m, "too many stores");
+        }
+    }
+
     /// A plan, in buffers of the right length.
     pub fn planned(&self, cluster: &[u8], shape: Shape, leader: usize, present: u32) -> Planned {
         let mut plan = vec![UNPLANNED; shape.m];

@@ -44,8 +44,53 @@ impl Code {
         accepted(answer).map(|()| (length, first))
     }
 
-    /// What a read says of the whole image. Wrong numbers get small buffers.
+    pub fn witness_append(
+        &self,
+        image: &mut [u8],
+        shape: Shape,
+        replica: usize,
+        epoch: u32,
+    ) -> Result<usize, Refusal> {
+        let mut slot = UNSET;
+        let answer = (self.side.witness_append)(image, shape, replica, epoch, &mut slot);
+        accepted(answer).map(|()| slot)
+    }
+
+    pub fn witness_read(
+        &self,
+        image: &[u8],
+        shape: Shape,
+        replica: usize,
+        epochs: &mut [u32],
+    ) -> Result<(usize, u32), Refusal> {
+        let (mut length, mut first) = (UNSET, 0);
+        let (used, begins) = (&mut length, &mut first);
+        let answer = (self.side.witness_read)(image, shape, replica, epochs, used, begins);
+        accepted(answer).map(|()| (length, first))
+    }
+
+    /// What a read says of the whole image, a card's or a witness's.
     pub fn judge_image(&self, image: &[u8], shape: Shape, replica: usize) -> Result<Log, Refusal> {
+        if shape.is_witness(replica) {
+            self.judge_witness(image, shape, replica)
+        } else {
+            self.judge_card(image, shape, replica)
+        }
+    }
+
+    fn judge_witness(&self, image: &[u8], shape: Shape, replica: usize) -> Result<Log, Refusal> {
+        let mut epochs = vec![0; shape.m.min(1000)];
+        let (length, first) = self.witness_read(image, shape, replica, &mut epochs)?;
+        Ok(Log {
+            length,
+            first,
+            epochs,
+            verdicts: Vec::new(),
+        })
+    }
+
+    /// Wrong numbers get small buffers.
+    fn judge_card(&self, image: &[u8], shape: Shape, replica: usize) -> Result<Log, Refusal> {
         let mut epochs = vec![0; shape.m.min(1000)];
         let mut verdicts = vec![99; shape.m.min(1000)];
         let (length, first) = self.read(image, shape, replica, &mut epochs, &mut verdicts)?;

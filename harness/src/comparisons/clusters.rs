@@ -8,9 +8,11 @@ use crate::generate::{agreed_case, arbitrary_case, noise_cluster, plan_call, rec
 use crate::generate::{Case, Rng};
 use crate::model::planner::{reply, Reply};
 use crate::model::{
-    cluster_len, header_len, image_offset, judge_header, survey, Shape, MAX_REPLICAS, MAX_SLOTS,
+    cluster_len, header_len, image_len, image_offset, judge_header, judge_image, survey, Shape,
+    Survey, MAX_REPLICAS, MAX_SLOTS,
 };
 use crate::tally::{each_case, Tally};
+use crate::witnessed::{is_wrong_set, kept_by_witnesses};
 
 /// Plans by both, and counts how it went.
 pub fn compare_plan(rng: &mut Rng, call: &Call, tally: &mut Tally) {
@@ -18,10 +20,13 @@ pub fn compare_plan(rng: &mut Rng, call: &Call, tally: &mut Tally) {
     tally.count("refusal", outcome.answer.code());
     match outcome.answer.code() {
         0 => {
+            let survey = survey_of(call);
             count_plan(&outcome, tally);
-            count_cut_by_half(call, &outcome, tally);
+            count_cut_by_half(&survey, &outcome, tally);
+            count_witnesses(&survey, &outcome, tally);
             count_first(call, tally);
         }
+        12 => count_leader(call, tally),
         13 => count_lengths(call, tally),
         refusal => count_editions(call, refusal, tally),
     }
@@ -30,9 +35,7 @@ pub fn compare_plan(rng: &mut Rng, call: &Call, tally: &mut Tally) {
 /// The shape, the leader, the present word and the cluster of a plan.
 fn plan_of(call: &Call) -> (Shape, usize, u32, &[u8]) {
     let &Call::Plan {
-        n,
-        m,
-        edition,
+        shape,
         leader,
         present,
         ref cluster,
@@ -41,7 +44,39 @@ fn plan_of(call: &Call) -> (Shape, usize, u32, &[u8]) {
     else {
         panic!("{call} is no plan");
     };
-    (Shape { n, m, edition }, leader, present, cluster)
+    (shape, leader, present, cluster)
+}
+
+/// What the model sees in the cluster of a plan that is not refused.
+fn survey_of(call: &Call) -> Survey {
+    let (shape, leader, present, cluster) = plan_of(call);
+    survey(cluster, shape, leader, present).expect("it was planned")
+}
+
+/// How many witnesses there are; for each n, whether one with the record kept a slot from being cut; and
+/// what became of those that are present: 0 away, 1 within reach.
+fn count_witnesses(survey: &Survey, outcome: &Outcome, tally: &mut Tally) {
+    let shape = survey.shape;
+    tally.count("witnesses", shape.witnesses.count_ones() as usize);
+    for replica in (1..=shape.n).filter(|&replica| shape.is_witness(replica)) {
+        tally.count("witness", usize::from(survey.log(replica).is_some()));
+    }
+    let plan = outcome.bytes("plan");
+    let mut waiting = (1..=shape.m).filter(|slot| plan[slot - 1] == 3);
+    if waiting.any(|slot| kept_by_witnesses(survey, slot)) {
+        tally.count("kept by witnesses of n", shape.n);
+    }
+}
+
+/// A leader that is refused for being a witness: 0 with an image that is refused, 1 with one that is not.
+fn count_leader(call: &Call, tally: &mut Tally) {
+    let (shape, leader, _, cluster) = plan_of(call);
+    if (1..=shape.n).contains(&leader) && shape.is_witness(leader) {
+        let at = image_offset(shape, leader);
+        let image = &cluster[at..at + image_len(shape, leader)];
+        let readable = judge_image(image, shape, leader).is_ok();
+        tally.count("witness leads", usize::from(readable));
+    }
 }
 
 /// The edition of a plan that is not refused, and where the leader's log begins.
@@ -65,6 +100,7 @@ fn count_editions(call: &Call, refusal: usize, tally: &mut Tally) {
         n: shape.n.min(MAX_REPLICAS),
         m: shape.m.min(MAX_SLOTS),
         edition: 3 - shape.edition,
+        ..shape
     };
     if cluster.len() == cluster_len(other) {
         tally.count("other edition", refusal);
@@ -91,14 +127,12 @@ fn count_plan(outcome: &Outcome, tally: &mut Tally) {
 }
 
 /// For each n, whether a slot is cut by exactly half of n.
-fn count_cut_by_half(call: &Call, outcome: &Outcome, tally: &mut Tally) {
+fn count_cut_by_half(survey: &Survey, outcome: &Outcome, tally: &mut Tally) {
     let Some(at) = outcome.bytes("plan").iter().position(|&byte| byte == 4) else {
         return;
     };
-    let (shape, leader, present, cluster) = plan_of(call);
-    let survey = survey(cluster, shape, leader, present).expect("it was planned");
-    let n = shape.n;
-    let lacks = |&replica: &usize| reply(&survey, replica, at + 1) == Some(Reply::DontHave);
+    let n = survey.shape.n;
+    let lacks = |&replica: &usize| reply(survey, replica, at + 1) == Some(Reply::DontHave);
     if 2 * (1..=n).filter(lacks).count() == n {
         tally.count("cut by half of n", n);
     }
@@ -107,13 +141,13 @@ fn count_cut_by_half(call: &Call, outcome: &Outcome, tally: &mut Tally) {
 /// What was lent with the wrong length.
 fn count_lengths(call: &Call, tally: &mut Tally) {
     let &Call::Plan {
-        n, m, slots, rows, ..
+        shape, slots, rows, ..
     } = call
     else {
         panic!("{call} is no plan");
     };
-    tally.count("wrong plan", usize::from(slots != m));
-    tally.count("wrong table", usize::from(rows != n));
+    tally.count("wrong plan", usize::from(slots != shape.m));
+    tally.count("wrong table", usize::from(rows != shape.n));
 }
 
 /// Any cluster.
@@ -136,7 +170,7 @@ pub fn plans(seed: u64, clusters: u64) -> Tally {
     });
     assert_eq!(tally.all("refusal"), clusters);
     let some = one_of(2000, clusters);
-    tally.assert_each("refusal", &[0, 1, 2, 3, 11, 12, 13, 21], some);
+    tally.assert_each("refusal", &[0, 1, 2, 3, 11, 12, 13, 21, 22], some);
     tally.assert_each("edition", &[1, 2], one_of(4, clusters));
     tally.assert_each("first", &FIRST_KINDS, some);
     tally.assert_each("no edition", &[2], some);
@@ -150,6 +184,11 @@ pub fn plans(seed: u64, clusters: u64) -> Tally {
     tally.assert_each("row", &[0, 1, 2], some);
     tally.assert_each("wrong plan", &[0, 1], some);
     tally.assert_each("wrong table", &[0, 1], some);
+    tally.assert_each("witnesses", &[0, 1], one_of(5, clusters));
+    tally.assert_each("witnesses", &[2, 3, 4, 5, 6], some);
+    tally.assert_each("witness", &[0, 1], some);
+    tally.assert_each("witness leads", &[0, 1], some);
+    tally.assert_each("kept by witnesses of n", &[3, 4, 5, 6, 7], some);
     tally
 }
 
@@ -170,7 +209,11 @@ fn compare_steps(rng: &mut Rng, case: &Case, tally: &mut Tally) -> (Vec<u8>, u64
     let mut now = case.clone();
     let mut stores = 0;
     while let Some((step, 2)) = compare_call(rng, &now.step(), tally) {
-        tally.count("kind", step.number("kind") as usize);
+        let kind = step.number("kind") as usize;
+        tally.count("kind", kind);
+        if case.shape.is_witness(step.number("replica") as usize) {
+            tally.count("kind on a witness", kind);
+        }
         now.cluster.copy_from_slice(step.bytes("cluster"));
         stores += 1;
     }
@@ -186,6 +229,9 @@ pub fn compare_recovery(rng: &mut Rng, case: &Case, tally: &mut Tally) {
         tally.count("n", case.shape.n);
         tally.count("m", case.shape.m);
         tally.count("edition", case.shape.edition);
+        tally.count("witnesses", case.shape.witnesses.count_ones() as usize);
+        let wrong = is_wrong_set(&case.cluster, case.shape);
+        tally.count("wrong set", usize::from(wrong));
         for few in [1, 10, 100] {
             if stores >= few {
                 tally.count("stores", few as usize);
@@ -204,12 +250,16 @@ pub fn recoveries(seed: u64, clusters: u64) -> Tally {
         compare_recovery(rng, &case, tally);
     });
     let many = one_of(100, clusters);
-    let refusals = [0, 1, 2, 3, 11, 12, 21];
+    let refusals = [0, 1, 2, 3, 11, 12, 21, 22];
     tally.assert_each("refusal", &refusals, one_of(1000, clusters));
     tally.assert_each("edition", &[1, 2], one_of(4, clusters));
     tally.assert_each("Step", &[0, 1, 2], many);
     tally.assert_each("Run", &[0, 1, 2], many);
     tally.assert_each("kind", &[1, 2, 3], many);
+    tally.assert_each("kind on a witness", &[2, 3], many);
+    assert_eq!(tally.of("kind on a witness", 1), 0, "an entry on a witness");
+    tally.assert_each("witnesses", &[0, 1, 2, 3], many);
+    tally.assert_each("wrong set", &[0, 1], one_of(1000, clusters));
     tally.assert_each("n", &[3, 4, 5, 6, 7], many);
     tally.assert_each("stores", &[1, 10], many);
     tally.assert_each("stores", &[100], one_of(10_000, clusters));

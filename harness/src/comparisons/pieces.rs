@@ -49,16 +49,18 @@ pub fn columns_read(seed: u64, cases: u64) -> Tally {
     tally
 }
 
-/// Of a good header its edition is counted as well, and whether it has the highest first index.
+/// Of a good header its edition is counted as well, whether it is a witness's, and whether it has the
+/// highest first index.
 pub fn headers(seed: u64, cases: u64) -> Tally {
     let tally = each_case(seed, cases, |rng, tally| {
         for call in header_calls(rng) {
             let outcome = agree(rng, &call);
             tally.count(call.name(), outcome.answer.code());
             let good = outcome.answer == Answer::Header(Header::Good);
-            if let (true, Call::JudgeHeader { m, edition, .. }) = (good, call) {
-                tally.count("edition", edition);
-                let last = outcome.number("first") + m as u64 == 1 << 32;
+            if let (true, Call::JudgeHeader { shape, replica, .. }) = (good, call) {
+                tally.count("edition", shape.edition);
+                tally.count("of a witness", usize::from(shape.is_witness(replica)));
+                let last = outcome.number("first") + shape.m as u64 == 1 << 32;
                 tally.count("last index", usize::from(last));
             }
         }
@@ -66,6 +68,7 @@ pub fn headers(seed: u64, cases: u64) -> Tally {
     assert_covered(&tally, "JudgeHeader", cases, &[0, 1]);
     assert_covered(&tally, "WriteHeader", cases, &[0, 1]);
     tally.assert_each("edition", &[1, 2], one_of(30, cases));
+    tally.assert_each("of a witness", &[0, 1], one_of(30, cases));
     tally.assert_each("last index", &[0, 1], one_of(100, cases));
     tally
 }

@@ -1,5 +1,5 @@
-//! The same image or cluster with fewer slots or replicas, in edition 1, or from index 1 on: what was
-//! written for a slot or a replica is written anew for its new number.
+//! The same image or cluster with fewer slots or replicas, without witnesses, in edition 1, or from index
+//! 1 on: what was written for a slot or a replica is written anew for its new number.
 
 use std::ops::Range;
 
@@ -7,7 +7,7 @@ use crate::call::{Call, Field};
 use crate::model::{
     cluster_len, entry_offset, header_len, image_len, index_of, judge_entry, judge_header,
     judge_record, record_offset, write_entry, write_header, write_record, EntryState, RecordState,
-    Shape, BLANK_RECORD, ENTRY_LEN, MAX_SLOTS, RECORD_LEN,
+    Shape, BLANK_RECORD, ENTRY_LEN, MAX_SLOTS, MIN_REPLICAS, RECORD_LEN,
 };
 
 /// The images of a call about one image or a cluster, if its numbers fit them.
@@ -32,6 +32,7 @@ fn images(call: &mut Call) -> Option<Images<'_>> {
         n: number(&numbers, "n")?,
         m: number(&numbers, "m")?,
         edition: number(&numbers, "edition")?,
+        witnesses: number(&numbers, "witnesses")? as u32,
     };
     let fits = (1..=MAX_SLOTS).contains(&shape.m)
         && (1..=7).contains(&shape.n)
@@ -40,7 +41,10 @@ fn images(call: &mut Call) -> Option<Images<'_>> {
         return None;
     }
     let (replica, length) = match name {
-        "image" => (number(&numbers, "replica")?, image_len(shape)),
+        "image" => {
+            let replica = number(&numbers, "replica")?;
+            (replica, image_len(shape, replica))
+        }
         _ => (1, cluster_len(shape)),
     };
     (bytes.len() == length && replica < 1000).then_some(Images {
@@ -66,10 +70,24 @@ impl Images<'_> {
         }
     }
 
+    /// Every replica, by number, with the part of the bytes that is its image.
+    fn parts(&self) -> Vec<(usize, Range<usize>)> {
+        let (mut parts, mut at) = (Vec::new(), 0);
+        for replica in self.replica.. {
+            if at == self.bytes.len() {
+                break;
+            }
+            let end = at + image_len(self.shape, replica);
+            parts.push((replica, at..end));
+            at = end;
+        }
+        parts
+    }
+
     /// Every image with its replica, by number.
     fn each(&self) -> impl Iterator<Item = (usize, &[u8])> {
-        let images = self.bytes.chunks(image_len(self.shape));
-        (self.replica..).zip(images)
+        let parts = self.parts().into_iter();
+        parts.map(|(replica, part)| (replica, &self.bytes[part]))
     }
 
     /// All slots, as `rewritten` takes them.
@@ -92,7 +110,8 @@ struct Place {
 }
 
 /// The image of some slots, in this order, written for another place. A good header, good records and
-/// intact entries are written anew; other bytes stay, as many of them as there is room for.
+/// intact entries are written anew; other bytes stay, as many of them as there is room for. What was a
+/// witness's has entries of spaces on a card.
 fn rewritten(image: &[u8], shape: Shape, replica: usize, kept: &[usize], new: Place) -> Vec<u8> {
     let first = first_of(image, shape, replica);
     let header = &image[..header_len(shape)];
@@ -109,6 +128,13 @@ fn rewritten(image: &[u8], shape: Shape, replica: usize, kept: &[usize], new: Pl
             }
             _ => bytes.extend(record),
         }
+    }
+    if new.shape.is_witness(new.replica) {
+        return bytes;
+    }
+    if shape.is_witness(replica) {
+        bytes.resize(bytes.len() + ENTRY_LEN * kept.len(), b' ');
+        return bytes;
     }
     for (at, &slot) in kept.iter().enumerate() {
         let from = entry_offset(shape, slot);
@@ -165,12 +191,15 @@ pub fn with_unused_slots(call: &mut Call, unused: Range<usize>) {
         return;
     };
     let shape = images.shape;
-    for image in images.bytes.chunks_mut(image_len(shape)) {
+    for (replica, part) in images.parts() {
+        let image = &mut images.bytes[part];
         for slot in unused.start + 1..=unused.end {
             let at = record_offset(shape, slot);
             image[at..at + RECORD_LEN].copy_from_slice(&BLANK_RECORD);
-            let at = entry_offset(shape, slot);
-            image[at..at + ENTRY_LEN].fill(b' ');
+            if !shape.is_witness(replica) {
+                let at = entry_offset(shape, slot);
+                image[at..at + ENTRY_LEN].fill(b' ');
+            }
         }
     }
 }
@@ -181,11 +210,12 @@ pub fn with_empty_payloads(call: &mut Call, emptied: Range<usize>) {
         return;
     };
     let shape = images.shape;
-    let firsts: Vec<u32> = images
-        .each()
-        .map(|(replica, image)| first_of(image, shape, replica))
-        .collect();
-    for (image, first) in images.bytes.chunks_mut(image_len(shape)).zip(firsts) {
+    for (replica, part) in images.parts() {
+        if shape.is_witness(replica) {
+            continue;
+        }
+        let image = &mut images.bytes[part];
+        let first = first_of(image, shape, replica);
         for slot in emptied.start + 1..=emptied.end {
             let (at, index) = (entry_offset(shape, slot), index_of(first, slot));
             let entry = &mut image[at..at + ENTRY_LEN];
@@ -205,14 +235,39 @@ pub fn of_first_replica(call: &mut Call) {
     if number(&images.numbers, "replica").is_none() {
         return;
     }
+    let witnesses = u32::from(shape.is_witness(replica));
     let new = Place {
-        shape: Shape { n: 3, ..shape },
+        shape: Shape {
+            n: 3,
+            witnesses,
+            ..shape
+        },
         replica: 1,
         first: first_of(images.bytes, shape, replica),
     };
     *images.bytes = rewritten(images.bytes, shape, replica, &images.slots(), new);
     images.set("replica", 1);
     images.set("n", 3);
+    images.set("witnesses", witnesses as usize);
+}
+
+/// Makes every replica one that has a card.
+pub fn without_witnesses(call: &mut Call) {
+    let Some(mut images) = images(call) else {
+        return;
+    };
+    let (shape, kept) = (images.shape, images.slots());
+    let mut bytes = Vec::new();
+    for (replica, image) in images.each() {
+        let new = Place {
+            shape: shape.with_witnesses(0),
+            replica,
+            first: first_of(image, shape, replica),
+        };
+        bytes.extend(rewritten(image, shape, replica, &kept, new));
+    }
+    *images.bytes = bytes;
+    images.set("witnesses", 0);
 }
 
 /// Makes every image one of edition 1.
@@ -247,42 +302,47 @@ fn from_index_1_in(call: &mut Call, edition: usize) {
     images.set("edition", edition);
 }
 
-/// How many pairs of replicas can be taken out of a cluster.
+/// How many replicas can be taken out of a cluster.
 pub fn replicas(call: &mut Call) -> usize {
-    images(call).map_or(0, |images| pairs(&images).len())
+    images(call).map_or(0, |images| others(&images).len())
 }
 
-/// Pairs of replicas other than the leader, if three would stay.
-fn pairs(images: &Images) -> Vec<(usize, usize)> {
-    let mut pairs = Vec::new();
-    let Some(leader) = number(&images.numbers, "leader") else {
-        return pairs;
-    };
-    for high in 1..=images.shape.n {
-        for low in 1..high {
-            if images.shape.n >= 5 && low != leader && high != leader {
-                pairs.push((low, high));
-            }
-        }
+/// The replicas other than the leader, if there are more than a cluster needs.
+fn others(images: &Images) -> Vec<usize> {
+    let n = images.shape.n;
+    match number(&images.numbers, "leader") {
+        Some(leader) if n > MIN_REPLICAS => (1..=n).filter(|&other| other != leader).collect(),
+        _ => Vec::new(),
     }
-    pairs
 }
 
-/// Takes out one pair of replicas; more at once is not tried.
+/// Takes out some replicas other than the leader, if enough stay.
 pub fn without_replicas(call: &mut Call, out: Range<usize>) {
     let Some(mut images) = images(call) else {
         return;
     };
-    let (Some(&(low, high)), 1) = (pairs(&images).get(out.start), out.len()) else {
-        return;
-    };
     let (shape, kept) = (images.shape, images.slots());
-    let n = shape.n - 2;
-    let stay = |(replica, _): &(usize, &[u8])| *replica != low && *replica != high;
+    let out = others(&images)[out].to_vec();
+    if shape.n < MIN_REPLICAS + out.len() {
+        return;
+    }
+    let n = shape.n - out.len();
+    // The highest first: the numbers of lower ones stay.
+    let without = |set: usize| {
+        out.iter()
+            .rev()
+            .fold(set, |set, &one| without_bit(set, one))
+    };
+    let witnesses = without(shape.witnesses as usize);
+    let stay = |(replica, _): &(usize, &[u8])| !out.contains(replica);
     let mut bytes = Vec::new();
     for (at, (replica, image)) in images.each().filter(stay).enumerate() {
         let new = Place {
-            shape: Shape { n, ..shape },
+            shape: Shape {
+                n,
+                witnesses: witnesses as u32,
+                ..shape
+            },
             replica: at + 1,
             first: first_of(image, shape, replica),
         };
@@ -294,14 +354,15 @@ pub fn without_replicas(call: &mut Call, out: Range<usize>) {
     }
     images.set("n", n);
     let number_of = |name| number(&images.numbers, name).unwrap_or(0);
-    let below = |replica: usize| usize::from(low < replica) + usize::from(high < replica);
     let (leader, present) = (number_of("leader"), number_of("present"));
-    images.set("leader", leader.saturating_sub(below(leader)));
-    images.set("present", without_bit(without_bit(present, high), low));
+    let below = out.iter().filter(|&&replica| replica < leader).count();
+    images.set("leader", leader - below);
+    images.set("present", without(present));
+    images.set("witnesses", witnesses);
 }
 
-/// A present word without a replica's bit; higher ones move down.
-fn without_bit(present: usize, replica: usize) -> usize {
+/// A set without a replica's bit; higher ones move down.
+fn without_bit(set: usize, replica: usize) -> usize {
     let below = (1 << (replica - 1)) - 1;
-    present & below | present >> 1 & !below
+    set & below | set >> 1 & !below
 }

@@ -1,4 +1,5 @@
-//! Making a failing call smaller: edition 1, fewer slots, fewer bytes, zeroed bytes, lower numbers.
+//! Making a failing call smaller: no witnesses, edition 1, fewer slots, fewer bytes, zeroed bytes, lower
+//! numbers.
 
 use std::ops::Range;
 use std::time::{Duration, Instant};
@@ -10,8 +11,9 @@ use crate::call::{Call, Field};
 const TIME: Duration = Duration::from_secs(60);
 
 /// What is made of all images at once.
-const WHOLE: [fn(&mut Call); 3] = [
+const WHOLE: [fn(&mut Call); 4] = [
     reshape::of_first_replica,
+    reshape::without_witnesses,
     reshape::of_edition_1,
     reshape::from_index_1,
 ];
@@ -138,12 +140,16 @@ fn bytes(call: &mut Call, at: usize) -> Option<&mut Vec<u8>> {
     }
 }
 
-/// Bytes count first, then numbers, then what the bytes are.
-type Size = (usize, u128, usize);
+/// Witnesses count first, which make a cluster shorter but not plainer; then bytes, then numbers, then
+/// what the bytes are.
+type Size = (u32, usize, u128, usize);
 
 fn size(call: &Call) -> Size {
-    let (mut length, mut numbers, mut weight) = (0, 0, 0);
-    for (_, field) in call.clone().fields() {
+    let (mut witnesses, mut length, mut numbers, mut weight) = (0, 0, 0, 0);
+    for (name, field) in call.clone().fields() {
+        if name == "witnesses" {
+            witnesses = field.number().map_or(0, u64::count_ones);
+        }
         match field {
             Field::Bytes(bytes) => {
                 length += bytes.len();
@@ -152,7 +158,7 @@ fn size(call: &Call) -> Size {
             field => numbers += u128::from(field.number().unwrap_or(0)),
         }
     }
-    (length, numbers, weight)
+    (witnesses, length, numbers, weight)
 }
 
 /// 0 is the plainest byte, then what stands where nothing is written.

@@ -17,7 +17,7 @@ pub struct Cluster {
 impl Cluster {
     /// n fresh images of edition 1. The numbers must be ones the model accepts.
     pub fn fresh(n: usize, m: usize) -> Cluster {
-        Cluster::of_firsts(Shape::edition_1(n, m), &vec![1; n])
+        Cluster::of_shape(Shape::edition_1(n, m))
     }
 
     /// n fresh images of edition 2 whose logs all begin at this index.
@@ -25,11 +25,16 @@ impl Cluster {
         Cluster::of_firsts(Shape::edition_2(n, m), &vec![first; n])
     }
 
+    /// Fresh images of this shape, all from index 1 on.
+    pub fn of_shape(shape: Shape) -> Cluster {
+        Cluster::of_firsts(shape, &vec![1; shape.n])
+    }
+
     /// Fresh images, each with a first index of its own.
     pub fn of_firsts(shape: Shape, firsts: &[u32]) -> Cluster {
         let mut bytes = Vec::new();
         for replica in 1..=shape.n {
-            let mut image = vec![0; image_len(shape)];
+            let mut image = vec![0; image_len(shape, replica)];
             fresh_image(&mut image, shape, replica, firsts[replica - 1])
                 .expect("the numbers are accepted");
             bytes.extend_from_slice(&image);
@@ -64,12 +69,12 @@ impl Cluster {
 
     pub fn image(&self, replica: usize) -> &[u8] {
         let at = image_offset(self.shape, replica);
-        &self.bytes[at..at + image_len(self.shape)]
+        &self.bytes[at..at + image_len(self.shape, replica)]
     }
 
     pub fn image_mut(&mut self, replica: usize) -> &mut [u8] {
         let at = image_offset(self.shape, replica);
-        &mut self.bytes[at..at + image_len(self.shape)]
+        &mut self.bytes[at..at + image_len(self.shape, replica)]
     }
 
     pub fn header_mut(&mut self, replica: usize) -> &mut [u8] {
@@ -87,6 +92,7 @@ impl Cluster {
         &mut self.image_mut(replica)[at..at + RECORD_LEN]
     }
 
+    /// The entry of a slot, which only a card has.
     pub fn entry(&self, replica: usize, slot: usize) -> &[u8] {
         let at = entry_offset(self.shape, slot);
         &self.image(replica)[at..at + ENTRY_LEN]
@@ -107,9 +113,11 @@ impl Cluster {
         self.entry_mut(replica, slot).copy_from_slice(&bytes);
     }
 
-    /// Entry and record of one slot.
+    /// Entry and record of one slot; on a witness the record alone.
     pub fn put(&mut self, replica: usize, slot: usize, epoch: u32, payload: &[u8]) {
-        self.put_entry(replica, slot, epoch, payload);
+        if !self.shape.is_witness(replica) {
+            self.put_entry(replica, slot, epoch, payload);
+        }
         self.put_record(replica, slot, epoch);
     }
 }

@@ -27,7 +27,7 @@ pub fn one_of_each(rng: &mut Rng) -> Vec<Call> {
     calls
 }
 
-fn about_an_image(rng: &mut Rng) -> [Call; 5] {
+fn about_an_image(rng: &mut Rng) -> [Call; 7] {
     let m = match rng.below(50) {
         0 => rng.between(9, 64),
         1..=10 => rng.between(3, 8),
@@ -44,6 +44,8 @@ fn about_an_image(rng: &mut Rng) -> [Call; 5] {
         calls.read(),
         calls.has_payload(slot),
         calls.payload(slot),
+        calls.witness_append(),
+        calls.witness_read(),
     ]
 }
 
@@ -80,9 +82,7 @@ impl ImageCalls {
     pub fn format(&self) -> Call {
         Call::Format {
             length: self.image.len(),
-            n: self.shape.n,
-            m: self.shape.m,
-            edition: self.shape.edition,
+            shape: self.shape,
             replica: self.replica,
             first: self.first,
         }
@@ -90,9 +90,7 @@ impl ImageCalls {
 
     pub fn append(&self) -> Call {
         Call::Append {
-            n: self.shape.n,
-            m: self.shape.m,
-            edition: self.shape.edition,
+            shape: self.shape,
             replica: self.replica,
             epoch: self.epoch,
             payload: self.payload.clone(),
@@ -102,9 +100,7 @@ impl ImageCalls {
 
     pub fn read(&self) -> Call {
         Call::Read {
-            n: self.shape.n,
-            m: self.shape.m,
-            edition: self.shape.edition,
+            shape: self.shape,
             replica: self.replica,
             epochs: self.epochs,
             verdicts: self.verdicts,
@@ -114,9 +110,7 @@ impl ImageCalls {
 
     pub fn has_payload(&self, slot: usize) -> Call {
         Call::HasPayload {
-            n: self.shape.n,
-            m: self.shape.m,
-            edition: self.shape.edition,
+            shape: self.shape,
             replica: self.replica,
             slot,
             image: self.image.clone(),
@@ -125,11 +119,27 @@ impl ImageCalls {
 
     pub fn payload(&self, slot: usize) -> Call {
         Call::Payload {
-            n: self.shape.n,
-            m: self.shape.m,
-            edition: self.shape.edition,
+            shape: self.shape,
             replica: self.replica,
             slot,
+            image: self.image.clone(),
+        }
+    }
+
+    pub fn witness_append(&self) -> Call {
+        Call::WitnessAppend {
+            shape: self.shape,
+            replica: self.replica,
+            epoch: self.epoch,
+            image: self.image.clone(),
+        }
+    }
+
+    pub fn witness_read(&self) -> Call {
+        Call::WitnessRead {
+            shape: self.shape,
+            replica: self.replica,
+            epochs: self.epochs,
             image: self.image.clone(),
         }
     }
@@ -139,9 +149,7 @@ impl Case {
     /// A plan of so many slots and a table of so many rows are lent.
     pub fn plan(&self, slots: usize, rows: usize) -> Call {
         Call::Plan {
-            n: self.shape.n,
-            m: self.shape.m,
-            edition: self.shape.edition,
+            shape: self.shape,
             leader: self.leader,
             present: self.present,
             slots,
@@ -152,9 +160,7 @@ impl Case {
 
     pub fn step(&self) -> Call {
         Call::Step {
-            n: self.shape.n,
-            m: self.shape.m,
-            edition: self.shape.edition,
+            shape: self.shape,
             leader: self.leader,
             present: self.present,
             cluster: self.cluster.clone(),
@@ -163,9 +169,7 @@ impl Case {
 
     pub fn run(&self, budget: u64) -> Call {
         Call::Run {
-            n: self.shape.n,
-            m: self.shape.m,
-            edition: self.shape.edition,
+            shape: self.shape,
             leader: self.leader,
             present: self.present,
             budget,

@@ -7,11 +7,12 @@ use super::damage::{
     damage_entry, damage_header, damage_record, intact_under, some_entry, some_payload, torn_entry,
 };
 use super::rng::Rng;
-use super::shapes::{highest_first, some_first, some_shape};
+use super::shapes::{highest_first, other_witnesses, some_first, some_leader, some_shape};
 use super::Case;
 use crate::model::{judge_record, write_entry, RecordState, Shape};
 
-/// A payload that a majority of all replicas stored and the leader's log held, at one index.
+/// A payload that a majority of all replicas stored and the leader's log held, at one index. On a witness
+/// its record counts.
 #[derive(Clone, Debug, PartialEq, Eq)]
 pub struct Committed {
     /// The leader's slot.
@@ -91,14 +92,20 @@ pub fn agreed_case(rng: &mut Rng) -> AgreedCase {
 /// The same of this shape.
 pub fn agreed_case_of(rng: &mut Rng, shape: Shape) -> AgreedCase {
     let logs = replica_logs(rng, shape);
-    let leader = some_leader(rng, &logs);
+    let leader = furthest_leader(rng, shape, &logs);
     let firsts: Vec<u32> = logs.iter().map(|log| log.first).collect();
     let mut cluster = write_logs(rng, shape, &firsts, &logs);
     damage(rng, &mut cluster, &logs, leader);
     let committed = committed(leader, &logs);
+    let witnesses = if rng.chance(3) {
+        // A wrong set of the same size shows as images that are refused.
+        other_witnesses(rng, shape)
+    } else {
+        shape.witnesses
+    };
     AgreedCase {
         case: Case {
-            shape,
+            shape: shape.with_witnesses(witnesses),
             leader,
             present: some_present(rng, &firsts, leader),
             cluster: cluster.bytes,
@@ -250,18 +257,22 @@ fn arrivals(rng: &mut Rng, appended: &[Appended]) -> Vec<(Appended, Arrival)> {
     log
 }
 
-/// Mostly the log of the latest epoch that gets furthest, as an election would have it.
-fn some_leader(rng: &mut Rng, logs: &[ReplicaLog]) -> usize {
-    if rng.chance(25) {
-        return rng.between(1, logs.len());
+/// Mostly the card with the log of the latest epoch that gets furthest, as an election would have it.
+fn furthest_leader(rng: &mut Rng, shape: Shape, logs: &[ReplicaLog]) -> usize {
+    let has_card = |&replica: &usize| !shape.is_witness(replica);
+    let cards: Vec<usize> = (1..=shape.n).filter(has_card).collect();
+    if cards.is_empty() || rng.chance(25) {
+        return some_leader(rng, shape);
     }
     let rank = |log: &ReplicaLog| {
         let behind = u64::from(log.first) + log.slots.len() as u64;
         (log.last_epoch(), behind)
     };
-    let best = logs.iter().map(rank).max().unwrap_or((0, 0));
-    let candidates: Vec<usize> = (1..=logs.len())
-        .filter(|&replica| rank(&logs[replica - 1]) == best)
+    let rank = |replica: &usize| rank(&logs[replica - 1]);
+    let best = cards.iter().map(rank).max();
+    let candidates: Vec<usize> = cards
+        .into_iter()
+        .filter(|replica| Some(rank(replica)) == best)
         .collect();
     *rng.pick(&candidates)
 }
@@ -272,6 +283,10 @@ fn write_logs(rng: &mut Rng, shape: Shape, firsts: &[u32], logs: &[ReplicaLog]) 
     let leftovers = rng.below(90);
     for replica in 1..=shape.n {
         let log = &logs[replica - 1];
+        if shape.is_witness(replica) {
+            write_records(&mut cluster, replica, log);
+            continue;
+        }
         for slot in 1..=shape.m {
             if rng.chance(leftovers) {
                 let bytes = leftover(rng, logs, &cluster, replica, slot);
@@ -283,6 +298,15 @@ fn write_logs(rng: &mut Rng, shape: Shape, firsts: &[u32], logs: &[ReplicaLog]) 
         }
     }
     cluster
+}
+
+/// The log of a witness: each record that has arrived.
+fn write_records(cluster: &mut Cluster, replica: usize, log: &ReplicaLog) {
+    for (at, (item, arrival)) in log.slots.iter().enumerate() {
+        if arrival.record_is_there() {
+            cluster.put_record(replica, at + 1, item.epoch);
+        }
+    }
 }
 
 /// What an older log may have left at a slot: anything, an entry that another replica holds at this
@@ -337,7 +361,7 @@ fn write_slot(
     }
 }
 
-/// Damages headers, and of each used slot the record or the entry, never both.
+/// Damages headers, and of each used slot of a card the record or the entry, never both.
 fn damage(rng: &mut Rng, cluster: &mut Cluster, logs: &[ReplicaLog], leader: usize) {
     let shape = cluster.shape;
     let rate = *rng.pick(&[0, 5, 15, 30, 50, 80]);
@@ -346,19 +370,10 @@ fn damage(rng: &mut Rng, cluster: &mut Cluster, logs: &[ReplicaLog], leader: usi
     for replica in 1..=shape.n {
         let rate = if replica == leader { leader_rate } else { rate };
         let log = &logs[replica - 1];
-        for (at, (item, arrival)) in log.slots.iter().enumerate() {
-            let slot = at + 1;
-            let index = cluster.index(replica, slot);
-            if !arrival.record_is_there() || !rng.chance(rate) {
-                continue;
-            }
-            let whole = intact_under(cluster.entry(replica, slot), index, item.epoch);
-            if whole && rng.chance(record_share) {
-                damage_record(rng, cluster.record_mut(replica, slot), index);
-            } else {
-                damage_entry(rng, cluster.entry_mut(replica, slot), index, item.epoch);
-            }
-            debug_assert!(judge_record(cluster.record(replica, slot), index) != RecordState::Blank);
+        if shape.is_witness(replica) {
+            damage_witness(rng, cluster, replica, log);
+        } else {
+            damage_slots(rng, cluster, replica, log, rate, record_share);
         }
         if rng.chance(4) {
             damage_header(rng, cluster.header_mut(replica), shape, replica);
@@ -366,8 +381,44 @@ fn damage(rng: &mut Rng, cluster: &mut Cluster, logs: &[ReplicaLog], leader: usi
     }
 }
 
+fn damage_slots(
+    rng: &mut Rng,
+    cluster: &mut Cluster,
+    replica: usize,
+    log: &ReplicaLog,
+    rate: usize,
+    record_share: usize,
+) {
+    for (at, (item, arrival)) in log.slots.iter().enumerate() {
+        let slot = at + 1;
+        let index = cluster.index(replica, slot);
+        if !arrival.record_is_there() || !rng.chance(rate) {
+            continue;
+        }
+        let whole = intact_under(cluster.entry(replica, slot), index, item.epoch);
+        if whole && rng.chance(record_share) {
+            damage_record(rng, cluster.record_mut(replica, slot), index);
+        } else {
+            damage_entry(rng, cluster.entry_mut(replica, slot), index, item.epoch);
+        }
+        debug_assert!(judge_record(cluster.record(replica, slot), index) != RecordState::Blank);
+    }
+}
+
+/// Now and then one record of a witness, which is then refused: a few such are enough.
+fn damage_witness(rng: &mut Rng, cluster: &mut Cluster, replica: usize, log: &ReplicaLog) {
+    let is_there = |at: &usize| log.slots[*at].1.record_is_there();
+    let used: Vec<usize> = (0..log.slots.len()).filter(is_there).collect();
+    if used.is_empty() || !rng.chance(8) {
+        return;
+    }
+    let slot = 1 + *rng.pick(&used);
+    let index = cluster.index(replica, slot);
+    damage_record(rng, cluster.record_mut(replica, slot), index);
+}
+
 /// Every payload stored by a majority of all replicas and held by the leader's log: index by index, each
-/// replica with its own first. Of what stands before the leader's first index nothing is said.
+/// replica with its own first, a witness by its record. Of what stands before the leader's first index nothing is said.
 fn committed(leader: usize, logs: &[ReplicaLog]) -> Vec<Committed> {
     let leader_log = &logs[leader - 1];
     let mut found = Vec::new();

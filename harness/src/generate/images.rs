@@ -1,4 +1,5 @@
-//! One image and the calls about it: written as it should be, damaged, spoilt, or not an image.
+//! One image, a card's or a witness's, and the calls about it: written as it should be, damaged, spoilt,
+//! or not an image.
 
 use super::damage::{damage_entry, damage_header, damage_record, flip_one_byte};
 use super::damage::{some_entry, some_epoch, some_payload};
@@ -6,9 +7,9 @@ use super::pieces::{payload_of, some_word};
 use super::rng::Rng;
 use super::shapes::{asked_first, other_edition, some_edition, some_first};
 use crate::model::{
-    entry_offset, fresh_image, header_len, image_len, index_of, record_offset, write_entry,
-    write_record, Shape, BLANK_RECORD, ENTRY_LEN, MAX_PAYLOAD, MAX_REPLICAS, MIN_REPLICAS,
-    RECORD_LEN,
+    card_len, entry_offset, fresh_image, header_len, image_len, index_of, record_offset,
+    witness_len, write_entry, write_record, Shape, BLANK_RECORD, ENTRY_LEN, MAX_PAYLOAD,
+    MAX_REPLICAS, MIN_REPLICAS, RECORD_LEN,
 };
 
 /// An image, and what the calls about it name and lend.
@@ -31,12 +32,22 @@ pub struct ImageCalls {
 pub fn image_calls(rng: &mut Rng, m: usize) -> ImageCalls {
     let n = rng.between(MIN_REPLICAS, MAX_REPLICAS);
     let edition = some_edition(rng);
-    let shape = Shape { n, m, edition };
     let replica = rng.between(1, n);
+    let shape = Shape {
+        n,
+        m,
+        edition,
+        witnesses: some_witnesses(rng, replica),
+    };
     let first = some_first(rng, shape);
-    let mut image = vec![0; image_len(shape)];
+    let mut image = vec![0; image_len(shape, replica)];
     fresh_image(&mut image, shape, replica, first).expect("the numbers are accepted");
-    let last = fill(rng, &mut image, shape, first);
+    let of_witness = shape.is_witness(replica);
+    let last = if of_witness {
+        fill_witness(rng, &mut image, shape, first)
+    } else {
+        fill_card(rng, &mut image, shape, first)
+    };
     match rng.below(16) {
         0 | 1 => {
             for _ in 0..rng.between(1, 3) {
@@ -44,8 +55,9 @@ pub fn image_calls(rng: &mut Rng, m: usize) -> ImageCalls {
             }
         }
         2 => damage_header(rng, &mut image[..header_len(shape)], shape, replica),
+        3 | 4 if of_witness => spoil_record(rng, &mut image, shape, first),
         3 | 4 => spoil_slot(rng, &mut image, shape, first),
-        5 => other_length(rng, &mut image),
+        5 => other_length(rng, &mut image, shape),
         6 if rng.chance(50) => rng.fill_noise(&mut image),
         _ => {}
     }
@@ -66,18 +78,68 @@ pub fn image_calls(rng: &mut Rng, m: usize) -> ImageCalls {
         3 => (calls.epochs, calls.verdicts) = (m + 1, m + 1),
         4 => calls.shape.edition = other_edition(rng, edition),
         5 => in_the_other_edition(rng, &mut calls),
+        6 => of_the_other_kind(rng, &mut calls),
         _ => {}
     }
     calls
 }
 
+/// Any set of witnesses, bits for no replica included; this replica is one of them in two of five.
+fn some_witnesses(rng: &mut Rng, replica: usize) -> u32 {
+    let others = if rng.chance(50) {
+        rng.draw() as u32 >> rng.below(32)
+    } else {
+        0
+    };
+    let bit = 1 << (replica - 1);
+    if rng.chance(40) {
+        others | bit
+    } else {
+        others & !bit
+    }
+}
+
+/// How many of m slots are used, and the first epoch.
+fn some_log(rng: &mut Rng, m: usize) -> (usize, u32) {
+    let length = if rng.chance(40) { m } else { rng.below(m + 1) };
+    let epoch = *rng.pick(&[1, 1, 2, 7, 999_999_999, u32::MAX - 1, u32::MAX]);
+    (length, epoch)
+}
+
+/// The epoch of the next slot, never a lower one.
+fn next_epoch(rng: &mut Rng, epoch: u32) -> u32 {
+    if rng.chance(30) {
+        epoch.saturating_add(*rng.pick(&[1, 2, 1000]))
+    } else {
+        epoch
+    }
+}
+
+/// Records under epochs that never fall, rarely a damaged one among them. Answers the last epoch.
+fn fill_witness(rng: &mut Rng, image: &mut [u8], shape: Shape, first: u32) -> u32 {
+    let (length, mut epoch) = some_log(rng, shape.m);
+    let rate = *rng.pick(&[0, 0, 0, 20]);
+    for slot in 1..=length {
+        let index = index_of(first, slot);
+        epoch = next_epoch(rng, epoch);
+        record_mut(image, shape, slot).copy_from_slice(&write_record(epoch, index));
+        if rng.chance(rate) {
+            damage_record(rng, record_mut(image, shape, slot), index);
+        }
+    }
+    if length == 0 {
+        0
+    } else {
+        epoch
+    }
+}
+
 /// Used slots under epochs that never fall, some of them damaged; now and then something in the
 /// unused ones. Answers the last epoch.
-fn fill(rng: &mut Rng, image: &mut [u8], shape: Shape, first: u32) -> u32 {
+fn fill_card(rng: &mut Rng, image: &mut [u8], shape: Shape, first: u32) -> u32 {
     let m = shape.m;
-    let length = if rng.chance(40) { m } else { rng.below(m + 1) };
+    let (length, mut epoch) = some_log(rng, m);
     let rate = *rng.pick(&[0, 0, 10, 40]);
-    let mut epoch = *rng.pick(&[1, 1, 2, 7, 999_999_999, u32::MAX - 1, u32::MAX]);
     for slot in 1..=m {
         let index = index_of(first, slot);
         if slot > length {
@@ -87,9 +149,7 @@ fn fill(rng: &mut Rng, image: &mut [u8], shape: Shape, first: u32) -> u32 {
             }
             continue;
         }
-        if rng.chance(30) {
-            epoch = epoch.saturating_add(*rng.pick(&[1, 2, 1000]));
-        }
+        epoch = next_epoch(rng, epoch);
         let entry = write_entry(epoch, index, &some_payload(rng));
         entry_mut(image, shape, slot).copy_from_slice(&entry);
         record_mut(image, shape, slot).copy_from_slice(&write_record(epoch, index));
@@ -105,6 +165,19 @@ fn fill(rng: &mut Rng, image: &mut [u8], shape: Shape, first: u32) -> u32 {
         0
     } else {
         epoch
+    }
+}
+
+/// One record of a witness written anew: a gap, a record of any epoch, or a bad one.
+fn spoil_record(rng: &mut Rng, image: &mut [u8], shape: Shape, first: u32) {
+    let slot = rng.between(1, shape.m);
+    let index = index_of(first, slot);
+    let epoch = some_epoch(rng, 2);
+    let record = record_mut(image, shape, slot);
+    match rng.below(3) {
+        0 => record.copy_from_slice(&BLANK_RECORD),
+        1 => record.copy_from_slice(&write_record(epoch, index)),
+        _ => damage_record(rng, record, index),
     }
 }
 
@@ -130,20 +203,32 @@ fn spoil_slot(rng: &mut Rng, image: &mut [u8], shape: Shape, first: u32) {
     }
 }
 
-/// Too short or too long, by a byte, a slot, or any number.
-fn other_length(rng: &mut Rng, image: &mut Vec<u8>) {
+/// Too short or too long, by a byte, a slot, or any number; or as long as an image of the other kind.
+fn other_length(rng: &mut Rng, image: &mut Vec<u8>, shape: Shape) {
     let right = image.len();
     let any = rng.below(2 * right);
     let slot = RECORD_LEN + ENTRY_LEN;
-    let length = *rng.pick(&[right - 1, right + 1, right - slot, right + slot, 0, any]);
+    let other_kind = card_len(shape) + witness_len(shape) - right;
+    let (less, more) = (right.saturating_sub(slot), right + slot);
+    let length = *rng.pick(&[right - 1, right + 1, less, more, other_kind, 0, any]);
     image.resize(length, b' ');
+}
+
+/// The shape says that it is an image of the other kind, whose length it has or not.
+fn of_the_other_kind(rng: &mut Rng, calls: &mut ImageCalls) {
+    calls.shape.witnesses ^= 1 << (calls.replica - 1);
+    if rng.chance(50) {
+        let length = image_len(calls.shape, calls.replica);
+        calls.image.resize(length, b' ');
+    }
 }
 
 /// The image as it is, lengthened or shortened to what an image of the other edition has.
 fn in_the_other_edition(rng: &mut Rng, calls: &mut ImageCalls) {
     calls.shape.edition = 3 - calls.shape.edition;
     let filler = *rng.pick(b" \n0");
-    calls.image.resize(image_len(calls.shape), filler);
+    let length = image_len(calls.shape, calls.replica);
+    calls.image.resize(length, filler);
 }
 
 /// One of the numbers that a call names is another.

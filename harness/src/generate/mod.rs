@@ -25,8 +25,8 @@ pub use noise::{noise_cluster, noise_image, noise_report_input, ImageCase};
 pub use pieces::{entry_piece, header_piece, record_piece, HeaderPiece, Piece};
 pub use recovery::{recovery_case, recovery_case_of};
 pub use rng::Rng;
-pub use shapes::{some_first, some_shape, some_shape_of};
-pub use small::{Small, FOUR, FROM_THREE, THREE};
+pub use shapes::{some_first, some_shape, some_shape_of, some_witnesses};
+pub use small::{Small, FOUR, FROM_THREE, ONE_WITNESS, THREE, TWO_WITNESSES};
 
 use crate::model::Shape;
 

@@ -4,7 +4,7 @@ use super::arbitrary::arbitrary_case_of;
 use super::damage::{flip_one_byte, some_entry};
 use super::history::agreed_case_of;
 use super::rng::Rng;
-use super::shapes::{other_edition, some_shape, some_shape_of};
+use super::shapes::{other_edition, some_shape, some_shape_of, some_witnesses};
 use super::Case;
 use crate::model::{
     entry_offset, header_len, image_len, image_offset, index_of, judge_header, record_offset,
@@ -25,10 +25,11 @@ pub fn noise_image(rng: &mut Rng) -> ImageCase {
     let case = some_cluster(rng, shape);
     let replica = rng.between(1, shape.n);
     let at = image_offset(shape, replica);
-    let mut image = case.cluster[at..at + image_len(shape)].to_vec();
+    let mut image = case.cluster[at..at + image_len(shape, replica)].to_vec();
     spoil_slots(rng, &mut image, shape, replica);
     spoil_length(rng, &mut image);
     let edition = some_edition_or_wrong(rng, shape.edition);
+    let witnesses = some_witnesses_or_wrong(rng, shape.witnesses);
     let mut wrong = |number: usize| {
         if rng.chance(5) {
             *rng.pick(&[0, 1, 2, 4, 6, 8, 64, 65, usize::MAX])
@@ -41,6 +42,7 @@ pub fn noise_image(rng: &mut Rng) -> ImageCase {
             n: wrong(shape.n),
             m: wrong(shape.m),
             edition,
+            witnesses,
         },
         replica: wrong(replica),
         image,
@@ -53,6 +55,15 @@ fn some_edition_or_wrong(rng: &mut Rng, edition: usize) -> usize {
         other_edition(rng, edition)
     } else {
         edition
+    }
+}
+
+/// Mostly the right set of witnesses, else another replica more or fewer, or any set.
+fn some_witnesses_or_wrong(rng: &mut Rng, witnesses: u32) -> u32 {
+    match rng.below(40) {
+        0 => witnesses ^ 1 << rng.below(32),
+        1 => rng.draw() as u32 >> rng.below(32),
+        _ => witnesses,
     }
 }
 
@@ -73,7 +84,7 @@ fn spoil_cluster(rng: &mut Rng, mut case: Case) -> Case {
     for replica in 1..=shape.n {
         if rng.chance(20) {
             let at = image_offset(shape, replica);
-            let end = at + image_len(shape);
+            let end = at + image_len(shape, replica);
             spoil_slots(rng, &mut case.cluster[at..end], shape, replica);
         }
     }
@@ -85,6 +96,7 @@ fn spoil_cluster(rng: &mut Rng, mut case: Case) -> Case {
         case.shape.m = *rng.pick(&[0, 1, 63, 64, 65, usize::MAX]);
     }
     case.shape.edition = some_edition_or_wrong(rng, shape.edition);
+    case.shape.witnesses = some_witnesses_or_wrong(rng, shape.witnesses);
     if rng.chance(5) {
         case.leader = *rng.pick(&[0, 1, 8, 31, 32, 33, 64, usize::MAX]);
     }
@@ -98,7 +110,11 @@ fn spoil_cluster(rng: &mut Rng, mut case: Case) -> Case {
 /// edition that it reads.
 pub fn noise_report_input(rng: &mut Rng) -> Vec<u8> {
     let edition = if rng.chance(95) { 1 } else { 2 };
-    let shape = some_shape_of(rng, edition);
+    let mut shape = some_shape_of(rng, edition);
+    if rng.chance(3) {
+        // It has no set of witnesses, so such a cluster is of another length.
+        shape.witnesses = some_witnesses(rng, shape.n);
+    }
     let case = noise_cluster_of(rng, shape);
     let column = |number: u64, width: usize| format!("{:>1$}", number % 10_000, width).into_bytes();
     let mut command = Vec::new();
@@ -136,7 +152,7 @@ fn some_cluster(rng: &mut Rng, shape: Shape) -> Case {
     }
 }
 
-/// Overwrites parts of an image: any byte, a record, an entry, or everything.
+/// Overwrites parts of an image: any byte, a record, an entry on a card, or everything.
 fn spoil_slots(rng: &mut Rng, image: &mut [u8], shape: Shape, replica: usize) {
     let header = &image[..header_len(shape)];
     let first = judge_header(header, shape, replica).unwrap_or(1);
@@ -155,7 +171,7 @@ fn spoil_slots(rng: &mut Rng, image: &mut [u8], shape: Shape, replica: usize) {
                 image[at..at + 33].fill(b' ');
                 image[at + 33] = *rng.pick(b"\n\n ");
             }
-            5 | 6 => {
+            5 | 6 if !shape.is_witness(replica) => {
                 let at = entry_offset(shape, slot);
                 let bytes = some_entry(rng, index, 2);
                 image[at..at + bytes.len()].copy_from_slice(&bytes);

@@ -4,7 +4,7 @@ use super::pieces::{entry_piece, header_piece, record_piece, HeaderPiece, Piece}
 use super::pieces::{payload_of, some_column, some_number, some_word, wrong_length};
 use super::rng::Rng;
 use crate::call::Call;
-use crate::model::{header_len, Shape, ENTRY_LEN, MAX_PAYLOAD, RECORD_LEN};
+use crate::model::{header_len, ENTRY_LEN, MAX_PAYLOAD, RECORD_LEN};
 
 /// The widest column that is read.
 pub const WIDEST: usize = 19;
@@ -52,20 +52,15 @@ pub fn header_calls(rng: &mut Rng) -> [Call; 2] {
         shape,
         replica,
     } = header_piece(rng);
-    let Shape { n, m, edition } = shape;
     [
         Call::JudgeHeader {
             header: mostly_whole(rng, bytes),
-            n,
-            m,
-            edition,
+            shape,
             replica,
         },
         Call::WriteHeader {
             length: some_length(rng, header_len(shape)),
-            n,
-            m,
-            edition,
+            shape,
             replica,
             first: some_word(rng),
         },

@@ -205,7 +205,9 @@ pub fn entry_piece(rng: &mut Rng) -> Piece {
 
 /// A number that stands in a header, or that is asked for.
 fn header_number(rng: &mut Rng) -> usize {
-    *rng.pick(&[0, 1, 2, 3, 4, 5, 6, 7, 9, 10, 63, 64, 65, 100, 999])
+    *rng.pick(&[
+        0, 1, 2, 3, 4, 5, 6, 7, 9, 10, 31, 32, 33, 63, 64, 65, 100, 999,
+    ])
 }
 
 /// Mostly one that there is.
@@ -228,11 +230,26 @@ fn first_column(rng: &mut Rng, m: usize) -> u64 {
     }
 }
 
+/// The fixed word of a card or of a witness, or none.
+fn header_word(rng: &mut Rng, of_witness: bool) -> [u8; 4] {
+    match (rng.below(20), of_witness) {
+        (0, _) => *rng.pick(&[*b"r0pe", *b"wit5", *b"rits", *b"wope"]),
+        (1, _) => *rng.pick(&[*b"rope", *b"wits"]),
+        (_, true) => *b"wits",
+        (_, false) => *b"rope",
+    }
+}
+
 /// A header, written for its numbers or not, or as many bytes that are none.
 pub fn header_piece(rng: &mut Rng) -> HeaderPiece {
     let edition = header_edition(rng);
     let numbers = [(); 3].map(|()| header_number(rng));
-    let mut bytes = if rng.chance(97) { *b"rope" } else { *b"r0pe" }.to_vec();
+    let mut shape = Shape::edition_1(0, 0);
+    if rng.chance(60) {
+        let any = rng.draw() as u32;
+        shape.witnesses = *rng.pick(&[u32::MAX, 0x7f, 1 << 31, any]);
+    }
+    let mut bytes = header_word(rng, shape.is_witness(numbers[0])).to_vec();
     push_column(rng, &mut bytes, 3, edition as u64);
     for number in numbers {
         push_column(rng, &mut bytes, 3, number as u64);
@@ -256,9 +273,10 @@ pub fn header_piece(rng: &mut Rng) -> HeaderPiece {
             2 => some_number(rng) as usize,
             _ => number,
         });
+    (shape.n, shape.m, shape.edition) = (n, m, edition);
     HeaderPiece {
         bytes,
-        shape: Shape { n, m, edition },
+        shape,
         replica,
     }
 }

@@ -4,7 +4,9 @@ use super::arbitrary::arbitrary_case_of;
 use super::history::agreed_case_of;
 use super::noise::noise_cluster_of;
 use super::rng::Rng;
-use super::shapes::{other_edition, some_edition, some_replica_count};
+use super::shapes::{
+    other_edition, other_witnesses, some_edition, some_replica_count, some_witnesses,
+};
 use super::Case;
 use crate::model::{Shape, MAX_REPLICAS, MAX_SLOTS, MIN_REPLICAS};
 
@@ -12,7 +14,13 @@ use crate::model::{Shape, MAX_REPLICAS, MAX_SLOTS, MIN_REPLICAS};
 pub fn recovery_case(rng: &mut Rng) -> Case {
     let (n, m) = some_counts(rng);
     let edition = some_edition(rng);
-    recovery_case_of(rng, Shape { n, m, edition })
+    let shape = Shape {
+        n,
+        m,
+        edition,
+        witnesses: some_witnesses(rng, n),
+    };
+    recovery_case_of(rng, shape)
 }
 
 /// A cluster of any kind: agreed and damaged, arbitrary, or spoilt.
@@ -26,14 +34,28 @@ pub fn recovery_case_of(rng: &mut Rng, shape: Shape) -> Case {
     case
 }
 
-/// Now and then another leader, or another edition.
+/// Now and then another leader, another edition, or another set of witnesses.
 pub fn other_numbers(rng: &mut Rng, case: &mut Case) {
+    if rng.chance(2) {
+        case.shape.witnesses = wrong_witnesses(rng, case.shape);
+    }
     if rng.chance(1) {
         let n = case.shape.n;
         case.leader = *rng.pick(&[0, 1, n, n.wrapping_add(1), 8, 32, 33, usize::MAX]);
     }
     if rng.chance(1) {
         case.shape.edition = other_edition(rng, case.shape.edition);
+    }
+}
+
+/// A set with a bit for no replica, with one replica more or fewer, of the same size, or any set.
+fn wrong_witnesses(rng: &mut Rng, shape: Shape) -> u32 {
+    let n = shape.n.min(MAX_REPLICAS);
+    match rng.below(5) {
+        0 | 1 => shape.witnesses | 1 << rng.between(n, 31),
+        2 => shape.witnesses ^ 1 << rng.below(n.max(1)),
+        3 => other_witnesses(rng, Shape { n, ..shape }),
+        _ => rng.draw() as u32 >> rng.below(32),
     }
 }
 

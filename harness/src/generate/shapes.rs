@@ -1,4 +1,4 @@
-//! Shapes of clusters, and the indexes at which their logs begin.
+//! Shapes of clusters, who leads them, and the indexes at which their logs begin.
 
 use super::rng::Rng;
 use crate::model::{Shape, LAST_INDEX};
@@ -8,18 +8,56 @@ pub fn some_edition(rng: &mut Rng) -> usize {
     rng.between(1, 2)
 }
 
-/// The shape of a cluster of either edition.
+/// The shape of a cluster of either edition, often with witnesses.
 pub fn some_shape(rng: &mut Rng) -> Shape {
     let edition = some_edition(rng);
-    some_shape_of(rng, edition)
+    let shape = some_shape_of(rng, edition);
+    shape.with_witnesses(some_witnesses(rng, shape.n))
 }
 
-/// The same of one edition.
+/// A set of witnesses among n replicas: in half of all cases none, else mostly one, now and then several,
+/// all but one, or all.
+pub fn some_witnesses(rng: &mut Rng, n: usize) -> u32 {
+    let all = (1 << n) - 1;
+    let one = 1 << rng.below(n);
+    match rng.below(40) {
+        0..=19 => 0,
+        20..=31 => one,
+        32..=36 => rng.draw() as u32 & all,
+        37 | 38 => all & !one,
+        _ => all,
+    }
+}
+
+/// Another set of as many witnesses, if there is one: a witness and a replica with a card change places.
+pub fn other_witnesses(rng: &mut Rng, shape: Shape) -> u32 {
+    let is_witness = |replica: &usize| shape.is_witness(*replica);
+    let (witnesses, cards): (Vec<usize>, Vec<usize>) = (1..=shape.n).partition(is_witness);
+    if witnesses.is_empty() || cards.is_empty() {
+        return shape.witnesses;
+    }
+    let (one, other) = (*rng.pick(&witnesses), *rng.pick(&cards));
+    shape.witnesses ^ 1 << (one - 1) ^ 1 << (other - 1)
+}
+
+/// Who leads: mostly a replica with a card, now and then any.
+pub fn some_leader(rng: &mut Rng, shape: Shape) -> usize {
+    let mut able: Vec<usize> = (1..=shape.n).collect();
+    if rng.chance(97) {
+        able.retain(|&replica| !shape.is_witness(replica));
+    }
+    if able.is_empty() {
+        return rng.between(1, shape.n);
+    }
+    *rng.pick(&able)
+}
+
+/// The shape of a cluster of this edition in which every replica has a card.
 pub fn some_shape_of(rng: &mut Rng, edition: usize) -> Shape {
+    let (n, m) = (some_replica_count(rng), some_slot_count(rng));
     Shape {
-        n: some_replica_count(rng),
-        m: some_slot_count(rng),
         edition,
+        ..Shape::edition_1(n, m)
     }
 }
 

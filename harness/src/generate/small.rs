@@ -1,5 +1,6 @@
 //! Agreed clusters of one slot over two epochs, up to the kind of bytes: all of three replicas, and of
-//! four those of fewer kinds; and in edition 2 those of three whose logs begin at 3 or at 4.
+//! four those of fewer kinds; in edition 2 those of three whose logs begin at 3 or at 4; and those of
+//! three with one witness or with two.
 
 use super::build::Cluster;
 use super::damage::header_of;
@@ -7,7 +8,7 @@ use super::history::{AgreedCase, Committed};
 use super::Case;
 use crate::model::{write_entry, Shape};
 
-/// What one replica holds in its only slot, with its header good or not.
+/// What one replica holds in its only slot, with its header good or not. A witness has no entry.
 #[derive(Clone, Copy, Debug, PartialEq, Eq)]
 enum Held {
     /// Unused, with these bytes left behind.
@@ -91,6 +92,18 @@ const KINDS_2: [Held; 12] = [
     Elsewhere(1),
 ];
 
+/// All that a witness may hold, with its record lost or not.
+const WITNESS_KINDS: [Held; 8] = [
+    Unused(Spaces),
+    Used(1, Spaces),
+    RecordLost(1),
+    Used(2, Spaces),
+    RecordLost(2),
+    Unreadable(0),
+    Unreadable(1),
+    Unreadable(2),
+];
+
 /// Every cluster of a shape whose replicas hold one of these kinds each.
 pub struct Small {
     pub shape: Shape,
@@ -117,10 +130,34 @@ pub const FROM_THREE: Small = Small {
     kinds: &KINDS_2,
 };
 
+/// Replica 3 is a witness.
+pub const ONE_WITNESS: Small = Small {
+    shape: Shape::edition_1(3, 1).with_witnesses(0b100),
+    first: 1,
+    kinds: &KINDS,
+};
+
+/// Replicas 1 and 3 are witnesses, a majority.
+pub const TWO_WITNESSES: Small = Small {
+    shape: Shape::edition_1(3, 1).with_witnesses(0b101),
+    first: 1,
+    kinds: &KINDS,
+};
+
 impl Small {
     /// How many cases there are.
     pub fn cases(&self) -> usize {
-        self.kinds.len().pow(self.shape.n as u32) * self.views()
+        let kinds = (1..=self.shape.n).map(|replica| self.kinds_of(replica).len());
+        kinds.product::<usize>() * self.views()
+    }
+
+    /// What a replica may hold.
+    fn kinds_of(&self, replica: usize) -> &'static [Held] {
+        if self.shape.is_witness(replica) {
+            &WITNESS_KINDS
+        } else {
+            self.kinds
+        }
     }
 
     /// The case of a number below that.
@@ -128,9 +165,10 @@ impl Small {
         let (leader, present) = self.view(number % self.views());
         let mut rest = number / self.views();
         let mut held = Vec::new();
-        for _ in 0..self.shape.n {
-            held.push(self.kinds[rest % self.kinds.len()]);
-            rest /= self.kinds.len();
+        for replica in 1..=self.shape.n {
+            let kinds = self.kinds_of(replica);
+            held.push(kinds[rest % kinds.len()]);
+            rest /= kinds.len();
         }
         let begins = |held: &Held| self.first + u32::from(matches!(held, Elsewhere(_)));
         let firsts: Vec<u32> = held.iter().map(begins).collect();
@@ -237,6 +275,9 @@ fn put_log(cluster: &mut Cluster, replica: usize, epoch: u32) {
 }
 
 fn put_bytes(cluster: &mut Cluster, replica: usize, bytes: Bytes) {
+    if cluster.shape.is_witness(replica) {
+        return;
+    }
     match bytes {
         Spaces => {}
         Noise => cluster.entry_mut(replica, 1).fill(b'#'),

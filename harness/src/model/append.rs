@@ -1,8 +1,8 @@
-//! Appending a payload at the first unused slot.
+//! Appending a payload at the first unused slot of a card.
 
 use super::entry::write_entry;
 use super::layout::{entry_offset, record_offset, ENTRY_LEN, MAX_PAYLOAD, RECORD_LEN};
-use super::read::judge_image;
+use super::read::judge_card;
 use super::record::write_record;
 use super::refusal::Refusal;
 use super::shape::Shape;
@@ -15,7 +15,7 @@ pub fn append(
     epoch: u32,
     payload: &[u8],
 ) -> Result<usize, Refusal> {
-    let log = judge_image(image, shape, replica)?;
+    let log = judge_card(image, shape, replica)?;
     if epoch == 0 || epoch < log.last_epoch() {
         return Err(Refusal::AppendEpoch);
     }

@@ -1,4 +1,4 @@
-//! A fresh image: a header, blank records and entries of spaces.
+//! A fresh image: a header, blank records, and on a card entries of spaces.
 
 use super::header::write_header;
 use super::layout::{header_len, image_len, record_offset, RECORD_LEN};
@@ -7,7 +7,7 @@ use super::record::BLANK_RECORD;
 use super::refusal::Refusal;
 use super::shape::Shape;
 
-/// Writes a fresh image over the whole lent buffer. Refusal 20 is tried just before 3.
+/// Writes a fresh image, a card's or a witness's, over the whole lent buffer. Refusal 20 is tried just before 3.
 pub fn fresh_image(
     image: &mut [u8],
     shape: Shape,
@@ -18,7 +18,7 @@ pub fn fresh_image(
     if !shape.may_begin_at(u64::from(first)) {
         return Err(Refusal::FirstIndex);
     }
-    if image.len() != image_len(shape) {
+    if image.len() != image_len(shape, replica) {
         return Err(Refusal::BufferLength);
     }
     image.fill(b' ');

@@ -6,12 +6,13 @@ use super::column::{read_column, write_column};
 use super::layout::header_len;
 use super::shape::Shape;
 
-const WORD: &[u8; 4] = b"rope";
+const CARD_WORD: &[u8; 4] = b"rope";
+const WITNESS_WORD: &[u8; 4] = b"wits";
 
 /// The header of one replica's image. Only edition 2 writes the first index.
 pub fn write_header(shape: Shape, replica: usize, first: u32) -> Vec<u8> {
     let mut bytes = vec![b' '; header_len(shape)];
-    bytes[0..4].copy_from_slice(WORD);
+    bytes[0..4].copy_from_slice(word(shape, replica));
     write_column(&mut bytes[4..7], shape.edition as u64);
     write_column(&mut bytes[7..10], replica as u64);
     write_column(&mut bytes[10..13], shape.n as u64);
@@ -25,6 +26,15 @@ pub fn write_header(shape: Shape, replica: usize, first: u32) -> Vec<u8> {
     write_column(&mut bytes[end..end + 11], u64::from(sum));
     bytes[end + 11] = b'\n';
     bytes
+}
+
+/// The fixed word of a replica's header: a witness has one of its own.
+fn word(shape: Shape, replica: usize) -> &'static [u8; 4] {
+    if shape.is_witness(replica) {
+        WITNESS_WORD
+    } else {
+        CARD_WORD
+    }
 }
 
 /// The first index, if these bytes are the header written for this replica and shape, and a log may

@@ -1,4 +1,4 @@
-//! Where things stand: a header, then m records, then m entries.
+//! Where things stand: a header, then m records, then on a card m entries.
 
 use super::shape::Shape;
 
@@ -26,19 +26,33 @@ pub fn header_len(shape: Shape) -> usize {
     }
 }
 
-/// Bytes of an image.
-pub fn image_len(shape: Shape) -> usize {
-    header_len(shape) + (RECORD_LEN + ENTRY_LEN) * shape.m
+/// Bytes of the image on a card.
+pub fn card_len(shape: Shape) -> usize {
+    witness_len(shape) + ENTRY_LEN * shape.m
 }
 
-/// Bytes of a cluster (the paper's fleet): n images end to end.
+/// Bytes of a witness's image, which has no entries.
+pub fn witness_len(shape: Shape) -> usize {
+    header_len(shape) + RECORD_LEN * shape.m
+}
+
+/// Bytes of the image that this replica (the paper's cabinet) has.
+pub fn image_len(shape: Shape, replica: usize) -> usize {
+    if shape.is_witness(replica) {
+        witness_len(shape)
+    } else {
+        card_len(shape)
+    }
+}
+
+/// Bytes of a cluster (the paper's fleet): n images end to end. A witness that is no replica adds none.
 pub fn cluster_len(shape: Shape) -> usize {
-    shape.n * image_len(shape)
+    image_offset(shape, shape.n + 1)
 }
 
-/// Where the image of a replica (the paper's cabinet) begins in the cluster.
+/// Where the image of a replica begins in the cluster: behind those of all lower numbers.
 pub fn image_offset(shape: Shape, replica: usize) -> usize {
-    (replica - 1) * image_len(shape)
+    (1..replica).map(|lower| image_len(shape, lower)).sum()
 }
 
 /// Where the record of a slot begins in its image.
@@ -46,7 +60,7 @@ pub fn record_offset(shape: Shape, slot: usize) -> usize {
     header_len(shape) + RECORD_LEN * (slot - 1)
 }
 
-/// Where the entry of a slot begins in its image.
+/// Where the entry of a slot begins on its card.
 pub fn entry_offset(shape: Shape, slot: usize) -> usize {
     header_len(shape) + RECORD_LEN * shape.m + ENTRY_LEN * (slot - 1)
 }

@@ -17,6 +17,7 @@ pub mod run;
 pub mod shape;
 pub mod step;
 pub mod survey;
+pub mod witness;
 
 pub use append::append;
 pub use checksum::checksum;
@@ -25,8 +26,9 @@ pub use entry::{judge_entry, write_entry, EntryState};
 pub use fresh::fresh_image;
 pub use header::{judge_header, write_header};
 pub use layout::{
-    cluster_len, entry_offset, header_len, image_len, image_offset, record_offset, ENTRY_LEN,
-    HEADER_LEN, HEADER_LEN_2, MAX_PAYLOAD, MAX_REPLICAS, MAX_SLOTS, MIN_REPLICAS, RECORD_LEN,
+    card_len, cluster_len, entry_offset, header_len, image_len, image_offset, record_offset,
+    witness_len, ENTRY_LEN, HEADER_LEN, HEADER_LEN_2, MAX_PAYLOAD, MAX_REPLICAS, MAX_SLOTS,
+    MIN_REPLICAS, RECORD_LEN,
 };
 pub use payload::{has_payload, payload};
 pub use planner::{plan, Answer};
@@ -38,3 +40,4 @@ pub use run::{run, RunAnswer, RunEnd};
 pub use shape::{index_of, Shape, LAST_INDEX};
 pub use step::{apply, next_store, step, Next, StepAnswer, Store, StoreKind};
 pub use survey::{survey, ReplicaRow, Survey};
+pub use witness::{witness_append, witness_read};

@@ -1,14 +1,14 @@
-//! The payload of one slot.
+//! The payload of one slot of a card.
 
 use super::entry::{judge_entry, EntryState};
 use super::layout::entry_offset;
-use super::read::{judge_image, Log};
+use super::read::{judge_card, Log};
 use super::refusal::Refusal;
 use super::shape::Shape;
 
 /// The part of the image that is the slot's payload, or the empty part.
 pub fn payload(image: &[u8], shape: Shape, replica: usize, slot: usize) -> &[u8] {
-    let Ok(log) = judge_image(image, shape, replica) else {
+    let Ok(log) = judge_card(image, shape, replica) else {
         return &[];
     };
     if !holds_payload(&log, shape, slot) {
@@ -27,7 +27,7 @@ pub fn has_payload(
     replica: usize,
     slot: usize,
 ) -> Result<bool, Refusal> {
-    let log = judge_image(image, shape, replica)?;
+    let log = judge_card(image, shape, replica)?;
     Ok(holds_payload(&log, shape, slot))
 }
 

@@ -129,7 +129,8 @@ pub fn reply(survey: &Survey, replica: usize, slot: usize) -> Option<Reply> {
     if !used || log.epoch(slot) != survey.leader_log().epoch(slot) {
         return Some(Reply::DontHave);
     }
-    if log.verdict(slot).has_payload() {
+    // A witness has no entry to give.
+    if !survey.shape.is_witness(replica) && log.verdict(slot).has_payload() {
         Some(Reply::Have)
     } else {
         Some(Reply::HaveFaulty)

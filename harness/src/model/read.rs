@@ -3,12 +3,13 @@
 use super::entry::{judge_entry, EntryState};
 use super::header::judge_header;
 use super::layout::{
-    entry_offset, header_len, image_len, record_offset, ENTRY_LEN, MAX_REPLICAS, MAX_SLOTS,
+    card_len, entry_offset, header_len, record_offset, ENTRY_LEN, MAX_REPLICAS, MAX_SLOTS,
     MIN_REPLICAS, RECORD_LEN,
 };
 use super::record::{judge_record, RecordState};
 use super::refusal::Refusal;
 use super::shape::{index_of, Shape};
+use super::witness::judge_witness;
 
 /// What the reader says of a slot. The paper's words stand beside the cases.
 #[derive(Clone, Copy, Debug, PartialEq, Eq)]
@@ -41,7 +42,7 @@ impl Verdict {
     }
 }
 
-/// One image as read. Both lists have m items; slot k is item k - 1.
+/// One image as read. Both lists have m items; slot k is item k - 1. A witness has no verdicts.
 #[derive(Clone, Debug, PartialEq, Eq)]
 pub struct Log {
     pub length: usize,
@@ -74,7 +75,7 @@ impl Log {
     }
 }
 
-/// Reads an image into the two lent buffers and answers its length and its first index.
+/// Reads a card into the two lent buffers and answers its length and its first index.
 pub fn read(
     image: &[u8],
     shape: Shape,
@@ -82,7 +83,7 @@ pub fn read(
     epochs: &mut [u32],
     verdicts: &mut [u8],
 ) -> Result<(usize, u32), Refusal> {
-    let log = judge_image(image, shape, replica)?;
+    let log = judge_card(image, shape, replica)?;
     if epochs.len() != shape.m || verdicts.len() != shape.m {
         return Err(Refusal::LentLength);
     }
@@ -93,16 +94,26 @@ pub fn read(
     Ok((log.length, log.first))
 }
 
-/// Judges a whole image. Each refusal looks at all slots before the next is tried.
+/// Judges the image of a replica, a card or a witness's, as the shape says.
 pub fn judge_image(image: &[u8], shape: Shape, replica: usize) -> Result<Log, Refusal> {
+    if shape.is_witness(replica) {
+        judge_witness(image, shape, replica)
+    } else {
+        judge_card(image, shape, replica)
+    }
+}
+
+/// Judges a whole card; a witness has none, whatever the length. Each refusal looks at all slots before
+/// the next is tried.
+pub fn judge_card(image: &[u8], shape: Shape, replica: usize) -> Result<Log, Refusal> {
     check_numbers(shape, replica)?;
-    if image.len() != image_len(shape) {
+    if shape.is_witness(replica) || image.len() != card_len(shape) {
         return Err(Refusal::BufferLength);
     }
     let header = &image[0..header_len(shape)];
     let first = judge_header(header, shape, replica).ok_or(Refusal::Header)?;
     let slots = judge_slots(image, shape, first);
-    if used_after_blank(&slots) {
+    if used_after_blank(slots.iter().map(SlotState::used)) {
         return Err(Refusal::UsedAfterBlank);
     }
     if both_lost(&slots) {
@@ -174,13 +185,14 @@ fn judge_slots(image: &[u8], shape: Shape, first: u32) -> Vec<SlotState<'_>> {
     slots
 }
 
-fn used_after_blank(slots: &[SlotState]) -> bool {
+/// Whether a used slot stands after an unused one, of slots that are used or not.
+pub fn used_after_blank(slots: impl Iterator<Item = bool>) -> bool {
     let mut blank_seen = false;
-    for slot in slots {
-        if slot.used() && blank_seen {
+    for used in slots {
+        if used && blank_seen {
             return true;
         }
-        if !slot.used() {
+        if !used {
             blank_seen = true;
         }
     }
@@ -202,7 +214,8 @@ fn slot_epoch(slot: &SlotState) -> u32 {
     }
 }
 
-fn epoch_falls(epochs: &[u32]) -> bool {
+/// Whether an epoch is below an earlier one.
+pub fn epoch_falls(epochs: &[u32]) -> bool {
     for later in 0..epochs.len() {
         for earlier in 0..later {
             if epochs[later] < epochs[earlier] {

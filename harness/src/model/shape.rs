@@ -11,17 +11,38 @@ pub struct Shape {
     /// How many slots each image has (the paper's places).
     pub m: usize,
     pub edition: usize,
+    /// The set of witnesses: replica c has bit c - 1. Refusal 22 says which sets are a cluster's.
+    pub witnesses: u32,
 }
 
 impl Shape {
-    /// Slot k has index k.
+    /// Slot k has index k, and every replica has a card.
     pub const fn edition_1(n: usize, m: usize) -> Shape {
-        Shape { n, m, edition: 1 }
+        Shape {
+            n,
+            m,
+            edition: 1,
+            witnesses: 0,
+        }
     }
 
-    /// The header names the first index.
+    /// The header names the first index, and every replica has a card.
     pub const fn edition_2(n: usize, m: usize) -> Shape {
-        Shape { n, m, edition: 2 }
+        Shape {
+            edition: 2,
+            ..Shape::edition_1(n, m)
+        }
+    }
+
+    /// The same with this set of witnesses.
+    pub const fn with_witnesses(self, witnesses: u32) -> Shape {
+        Shape { witnesses, ..self }
+    }
+
+    /// Whether the replica of this number is a witness, which has records and no entries. A number
+    /// without a bit is none.
+    pub fn is_witness(self, replica: usize) -> bool {
+        (1..=32).contains(&replica) && self.witnesses >> (replica - 1) & 1 == 1
     }
 
     /// Whether a log may begin at this index: each slot has an index, and in edition 1 slot 1 has 1.

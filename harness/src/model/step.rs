@@ -139,32 +139,38 @@ fn follower_store(cluster: &[u8], survey: &Survey, replica: usize, log: &Log) ->
     if log.length >= keep_below {
         return Some(blank_store(shape, replica, log.length));
     }
-    for slot in 1..keep_below {
-        if log.verdict(slot).is_faulty() {
-            return Some(entry_store(cluster, shape, replica, slot, survey.leader));
+    // On a witness no used slot needs anything.
+    if !shape.is_witness(replica) {
+        for slot in 1..keep_below {
+            if log.verdict(slot).is_faulty() {
+                return Some(entry_store(cluster, shape, replica, slot, survey.leader));
+            }
         }
-    }
-    for slot in 1..keep_below {
-        if log.verdict(slot) == Verdict::RecordLost {
-            return Some(record_store(shape, replica, log, slot, log.epoch(slot)));
+        for slot in 1..keep_below {
+            if log.verdict(slot) == Verdict::RecordLost {
+                return Some(record_store(shape, replica, log, slot, log.epoch(slot)));
+            }
         }
     }
     // Only the lowest missing slot matters: its record makes the next one the lowest.
     if log.length < leader_log.length {
-        let slot = log.length + 1;
-        let entry = entry_store(cluster, shape, replica, slot, survey.leader);
-        if cluster[entry.offset..entry.offset + ENTRY_LEN] != entry.bytes[..] {
-            return Some(entry);
-        }
-        return Some(record_store(
-            shape,
-            replica,
-            log,
-            slot,
-            leader_log.epoch(slot),
-        ));
+        return Some(missing_store(cluster, survey, replica, log));
     }
     None
+}
+
+/// The first missing slot: on a card its entry, unless it is the leader's already; then its record.
+fn missing_store(cluster: &[u8], survey: &Survey, replica: usize, log: &Log) -> Store {
+    let shape = survey.shape;
+    let slot = log.length + 1;
+    if !shape.is_witness(replica) {
+        let entry = entry_store(cluster, shape, replica, slot, survey.leader);
+        if cluster[entry.offset..entry.offset + ENTRY_LEN] != entry.bytes[..] {
+            return entry;
+        }
+    }
+    let epoch = survey.leader_log().epoch(slot);
+    record_store(shape, replica, log, slot, epoch)
 }
 
 /// The paper's d: the lowest used slot that the leader does not share, else one past the last.

@@ -50,7 +50,7 @@ pub fn is_present(present: u32, replica: usize) -> bool {
     present & (1 << (replica - 1)) != 0
 }
 
-/// Reads every present image, with refusals 1, 2, 3, 11, 12 and 21.
+/// Reads every present image, with refusals 1, 2, 3, 11, 22, 12 and 21.
 pub fn survey(
     cluster: &[u8],
     shape: Shape,
@@ -64,14 +64,19 @@ pub fn survey(
     if present >> shape.n != 0 {
         return Err(Refusal::Present);
     }
-    if leader < 1 || leader > shape.n {
+    if shape.witnesses >> shape.n != 0 {
+        return Err(Refusal::Witnesses);
+    }
+    // A witness never leads, whether it can be read or not.
+    if leader < 1 || leader > shape.n || shape.is_witness(leader) {
         return Err(Refusal::Leader);
     }
     let mut logs = Vec::new();
     for replica in 1..=shape.n {
         logs.push(if is_present(present, replica) {
             let at = image_offset(shape, replica);
-            judge_image(&cluster[at..at + image_len(shape)], shape, replica).ok()
+            let image = &cluster[at..at + image_len(shape, replica)];
+            judge_image(image, shape, replica).ok()
         } else {
             None
         });

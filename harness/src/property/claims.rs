@@ -12,9 +12,10 @@ use crate::model::planner::{PLAN_FETCH, PLAN_TRUNCATE, PLAN_WAIT};
 use crate::model::survey::is_present;
 use crate::model::{
     apply, entry_offset, header_len, image_len, image_offset, index_of, next_store, record_offset,
-    Answer, EntryState, Log, Next, Refusal, ReplicaRow, RunEnd, Shape, StepAnswer, Store,
+    survey, Answer, EntryState, Log, Next, Refusal, ReplicaRow, RunEnd, Shape, StepAnswer, Store,
     StoreKind, Verdict, ENTRY_LEN, LAST_INDEX, RECORD_LEN,
 };
+use crate::witnessed::{is_wrong_set, kept_by_witnesses};
 
 /// A damaged cluster and what was found there first.
 pub struct Start<'a> {
@@ -97,7 +98,12 @@ impl<'a> Start<'a> {
             Err(_) => coverage.refused += 1,
         }
         coverage.first_differs += u64::from(self.answer == Err(Refusal::FirstDiffers));
+        coverage.stray_witness += u64::from(self.answer == Err(Refusal::Witnesses));
+        let led_by_witness = self.case.shape.is_witness(self.case.leader);
+        let refused = self.answer == Err(Refusal::Leader);
+        coverage.led_by_witness += u64::from(refused && led_by_witness);
         if self.answer.is_ok() {
+            self.count_witnesses(coverage);
             let committed = self.committed.len() as u64;
             coverage.committed += committed;
             if self.case.shape.n % 2 == 0 {
@@ -113,6 +119,46 @@ impl<'a> Start<'a> {
             coverage.last_index += u64::from(last == LAST_INDEX);
         }
         coverage.most_stores = coverage.most_stores.max(self.stores);
+    }
+
+    /// What witnesses made of a plan that is not refused.
+    fn count_witnesses(&self, coverage: &mut Coverage) {
+        let Case { shape, cluster, .. } = self.case;
+        if shape.witnesses == 0 {
+            return;
+        }
+        coverage.with_witnesses += 1;
+        coverage.wrong_set += u64::from(is_wrong_set(cluster, *shape));
+        coverage.kept_by_witnesses += u64::from(self.is_kept_by_witnesses());
+        let no_majority_of_cards = |one: &&Committed| {
+            let cards = one.holders & !shape.witnesses;
+            cards.count_ones() as usize <= shape.n / 2
+        };
+        let witnessed = self.committed.iter().filter(no_majority_of_cards);
+        coverage.witnessed += witnessed.count() as u64;
+        for replica in (1..=shape.n).filter(|&replica| shape.is_witness(replica)) {
+            let before = image(cluster, *shape, replica);
+            let log = self.code.judge_image(before, *shape, replica);
+            let bad = log == Err(Refusal::BothLost) && is_present(self.case.present, replica);
+            coverage.bad_witnesses += u64::from(bad);
+            let written = image(&self.recovered, *shape, replica) != before;
+            coverage.witnesses_written += u64::from(written);
+        }
+    }
+
+    /// Whether some slot waits that would be cut without the records of witnesses.
+    fn is_kept_by_witnesses(&self) -> bool {
+        let &Case {
+            shape,
+            leader,
+            present,
+            ref cluster,
+        } = self.case;
+        let Ok(survey) = survey(cluster, shape, leader, present) else {
+            return false;
+        };
+        let mut waiting = (1..=shape.m).filter(|slot| self.plan[slot - 1] == PLAN_WAIT);
+        waiting.any(|slot| kept_by_witnesses(&survey, slot))
     }
 
     /// The table says which replicas are present and readable.
@@ -180,7 +226,9 @@ impl<'a> Start<'a> {
     /// The lowest replica within reach that has a committed payload intact.
     fn lowest_copy(&self, committed: &Committed) -> Result<Option<usize>, String> {
         for replica in 1..=self.case.shape.n {
-            if replica == self.case.leader || !is_present(self.within_reach, replica) {
+            // A witness has no copy.
+            let may_donate = replica != self.case.leader && !self.case.shape.is_witness(replica);
+            if !may_donate || !is_present(self.within_reach, replica) {
                 continue;
             }
             let log = self.log(&self.case.cluster, replica)?;
@@ -192,16 +240,19 @@ impl<'a> Start<'a> {
         Ok(None)
     }
 
-    /// Recovery done: record and entry are as the writer writes them, wherever one can look.
+    /// Recovery done: record and entry are as the writer writes them, wherever one can look; on a witness
+    /// the record.
     fn check_stored_everywhere(&self, committed: &Committed) -> Result<(), String> {
         let Committed {
             slot, index, epoch, ..
         } = *committed;
+        let shape = self.case.shape;
         for replica in self.replicas_within_reach() {
-            let record = record(&self.recovered, self.case.shape, replica, slot);
-            let entry = entry(&self.recovered, self.case.shape, replica, slot);
+            let record = record(&self.recovered, shape, replica, slot);
+            let written = || self.code.write_entry(epoch, index, &committed.payload);
             let stored = record == self.code.write_record(epoch, index)
-                && entry == self.code.write_entry(epoch, index, &committed.payload);
+                && (shape.is_witness(replica)
+                    || entry(&self.recovered, shape, replica, slot) == written());
             ensure(stored, || {
                 format!("slot {slot} of replica {replica} is not stored after recovery")
             })?;
@@ -214,9 +265,9 @@ impl<'a> Start<'a> {
         let leader_log = self.log(&self.recovered, self.case.leader)?;
         for replica in self.replicas_within_reach() {
             let log = self.log(&self.recovered, replica)?;
-            let intact = log.verdicts[..length]
-                .iter()
-                .all(|&verdict| verdict == Verdict::Intact);
+            // A witness that is read has no verdicts, and no bad record either.
+            let mut verdicts = log.verdicts.iter().take(length);
+            let intact = verdicts.all(|&verdict| verdict == Verdict::Intact);
             let same = log.length == length && log.epochs == leader_log.epochs;
             ensure(intact && same, || {
                 format!("the log of replica {replica} after recovery")
@@ -260,7 +311,7 @@ impl<'a> Start<'a> {
             let end = if is_present(self.within_reach, replica) {
                 header_len(shape)
             } else {
-                image_len(shape)
+                image_len(shape, replica)
             };
             let untouched = |cluster| &image(cluster, shape, replica)[..end];
             ensure(untouched(now) == untouched(&self.case.cluster), || {
@@ -270,41 +321,81 @@ impl<'a> Start<'a> {
         Ok(())
     }
 
-    /// A committed payload stays where it was, and nothing else appears in its place.
+    /// A committed payload stays where it was, and nothing else appears in its place. On a witness its
+    /// record stays good.
     fn check_kept(&self, now: &[u8], committed: &Committed) -> Result<(), String> {
-        let Committed {
-            slot, index, epoch, ..
-        } = *committed;
+        let Committed { slot, epoch, .. } = *committed;
         for replica in self.replicas_within_reach() {
             let log = self.log(now, replica)?;
             let used = slot <= log.length && log.epoch(slot) == epoch;
-            let now = entry(now, self.case.shape, replica, slot);
             if is_present(committed.holders, replica) {
                 ensure(used, || {
                     format!("replica {replica} lost slot {slot} of epoch {epoch}")
                 })?;
-                let before = entry(&self.case.cluster, self.case.shape, replica, slot);
-                ensure(!intact_under(before, index, epoch) || now == before, || {
-                    format!("replica {replica} lost its intact entry at slot {slot}")
-                })?;
             }
-            let state = self.code.judge_entry(now, index);
-            if let (true, EntryState::Intact(found, payload)) = (used, state) {
-                ensure(found != epoch || payload == committed.payload, || {
-                    format!("replica {replica} has another payload at slot {slot}")
-                })?;
+            if self.case.shape.is_witness(replica) {
+                self.check_record_kept(now, committed, replica, used)?;
+            } else {
+                self.check_entry_kept(now, committed, replica, used)?;
             }
         }
         Ok(())
     }
 
-    /// No run makes more than m x (3 x n - 2) stores, so none more than 3 x n x m.
+    /// A witness that uses the slot has the record that is written for it.
+    fn check_record_kept(
+        &self,
+        now: &[u8],
+        committed: &Committed,
+        replica: usize,
+        used: bool,
+    ) -> Result<(), String> {
+        let Committed {
+            slot, index, epoch, ..
+        } = *committed;
+        let record = record(now, self.case.shape, replica, slot);
+        let good = self.code.write_record(epoch, index);
+        ensure(!used || record == good, || {
+            format!("witness {replica} has another record at slot {slot}")
+        })
+    }
+
+    /// An entry that was intact stays, and one of this epoch has this payload.
+    fn check_entry_kept(
+        &self,
+        now: &[u8],
+        committed: &Committed,
+        replica: usize,
+        used: bool,
+    ) -> Result<(), String> {
+        let Committed {
+            slot, index, epoch, ..
+        } = *committed;
+        let now = entry(now, self.case.shape, replica, slot);
+        if is_present(committed.holders, replica) {
+            let before = entry(&self.case.cluster, self.case.shape, replica, slot);
+            ensure(!intact_under(before, index, epoch) || now == before, || {
+                format!("replica {replica} lost its intact entry at slot {slot}")
+            })?;
+        }
+        let state = self.code.judge_entry(now, index);
+        if let (true, EntryState::Intact(found, payload)) = (used, state) {
+            ensure(found != epoch || payload == committed.payload, || {
+                format!("replica {replica} has another payload at slot {slot}")
+            })?;
+        }
+        Ok(())
+    }
+
+    /// Each slot of the leader is stored to at most once, of another card three times, and of a witness
+    /// twice; so no run makes more than 3 x n x m stores.
     pub fn check_bound(&self, stores: u64) -> Result<(), String> {
         if self.answer.is_err() {
             return ensure(stores == 0, || "a refused run made stores".into());
         }
         let Shape { n, m, .. } = self.case.shape;
-        let bound = (m * (3 * n - 2)) as u64;
+        let witnesses = self.case.shape.witnesses.count_ones() as usize;
+        let bound = (m * (3 * n - 2 - witnesses)) as u64;
         ensure(stores <= bound, || format!("a run made {stores} stores"))
     }
 
@@ -404,7 +495,7 @@ fn store_in(after: &[u8], shape: Shape, replica: usize, slot: usize, kind: Store
 
 fn image(cluster: &[u8], shape: Shape, replica: usize) -> &[u8] {
     let at = image_offset(shape, replica);
-    &cluster[at..at + image_len(shape)]
+    &cluster[at..at + image_len(shape, replica)]
 }
 
 fn record(cluster: &[u8], shape: Shape, replica: usize, slot: usize) -> &[u8] {

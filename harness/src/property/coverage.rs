@@ -21,6 +21,20 @@ pub struct Coverage {
     pub first_differs: u64,
     /// Plans of logs whose last slot has the last index that there is.
     pub last_index: u64,
+    /// Plans of clusters with witnesses.
+    pub with_witnesses: u64,
+    /// Those with a wrong set of as many witnesses.
+    pub wrong_set: u64,
+    /// Those in which a witness's record kept a slot from being cut.
+    pub kept_by_witnesses: u64,
+    /// Plans that are refused because a witness leads, or because of a witness that is no replica.
+    pub led_by_witness: u64,
+    pub stray_witness: u64,
+    /// Committed payloads that only witnesses make a majority's.
+    pub witnessed: u64,
+    /// Present witnesses with a bad record, and those that a recovery writes to.
+    pub bad_witnesses: u64,
+    pub witnesses_written: u64,
     /// Committed payloads whose copy on the leader was faulty, with a copy within reach.
     pub fetched: u64,
     /// The same with none.
@@ -55,6 +69,19 @@ impl fmt::Display for Coverage {
             "  first indexes: {} committed in edition 2, {} held by a log that begins elsewhere; {} plans \
              refused by 21, {} with the last index",
             self.edition_2, self.elsewhere, self.first_differs, self.last_index
+        )?;
+        writeln!(
+            f,
+            "  witnesses: {} plans ({} of a wrong set, {} wait for a record), {} committed by them, {} with a \
+             bad record, {} written to; refused by 12 {}, by 22 {}",
+            self.with_witnesses,
+            self.wrong_set,
+            self.kept_by_witnesses,
+            self.witnessed,
+            self.bad_witnesses,
+            self.witnesses_written,
+            self.led_by_witness,
+            self.stray_witness
         )?;
         writeln!(
             f,

@@ -11,8 +11,8 @@ use crate::generate::damage::torn_entry;
 use crate::generate::shapes::other_edition;
 use crate::generate::{some_first, Case, Rng};
 use crate::model::{
-    apply, fresh_image, image_len, image_offset, Next, Refusal, ReplicaRow, RunEnd, StepAnswer,
-    Store, StoreKind,
+    apply, fresh_image, image_len, image_offset, Next, Refusal, ReplicaRow, RunEnd, Shape,
+    StepAnswer, Store, StoreKind,
 };
 
 /// Plays a list of calls and checks every conclusion after each of them.
@@ -187,7 +187,7 @@ fn refused_call(rng: &mut Rng, start: &Start, now: &[u8]) -> Result<(), String> 
 /// Makes one thing wrong and answers the number it is refused by; 13 is left to the caller.
 fn spoil_call(rng: &mut Rng, start: &Start, case: &mut Case) -> u8 {
     let shape = case.shape;
-    match rng.below(11) {
+    match rng.below(14) {
         0 => {
             case.shape.m = *rng.pick(&[0, 65, 1000, usize::MAX]);
             1
@@ -236,8 +236,28 @@ fn spoil_call(rng: &mut Rng, start: &Start, case: &mut Case) -> u8 {
             begin_elsewhere(rng, start, case);
             21
         }
+        10 => {
+            case.shape.witnesses |= 1 << rng.between(shape.n, 31);
+            22
+        }
+        11 => {
+            // One witness more or fewer, so that the cluster has another length.
+            case.shape.witnesses ^= 1 << rng.below(shape.n);
+            3
+        }
+        12 if shape.witnesses != 0 => {
+            case.leader = some_witness(rng, shape);
+            12
+        }
         _ => 13,
     }
+}
+
+/// One of the witnesses, of which there is one.
+fn some_witness(rng: &mut Rng, shape: Shape) -> usize {
+    let is_witness = |&replica: &usize| shape.is_witness(replica);
+    let witnesses: Vec<usize> = (1..=shape.n).filter(is_witness).collect();
+    *rng.pick(&witnesses)
 }
 
 /// Gives a replica other than the leader a fresh image that begins elsewhere, and has it present.
@@ -249,7 +269,7 @@ fn begin_elsewhere(rng: &mut Rng, start: &Start, case: &mut Case) {
         first = some_first(rng, shape);
     }
     let at = image_offset(shape, replica);
-    let image = &mut case.cluster[at..at + image_len(shape)];
+    let image = &mut case.cluster[at..at + image_len(shape, replica)];
     fresh_image(image, shape, replica, first).expect("the numbers are accepted");
     case.present |= 1 << (replica - 1);
 }

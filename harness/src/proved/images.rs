@@ -4,14 +4,14 @@
 use super::exported;
 use crate::model::Shape;
 
-/// Writes a fresh image over the whole lent buffer.
+/// Writes a fresh image, a card's or a witness's, over the whole lent buffer.
 pub fn format(image: &mut [u8], shape: Shape, replica: usize, first: u32) -> u8 {
     let (image, len) = (image.as_mut_ptr(), image.len());
     // SAFETY: the slice is lent for the call.
     unsafe { exported::rope_format(image, len, shape.into(), replica, first) }
 }
 
-/// Appends, and hands out the slot.
+/// Appends to a card, and hands out the slot.
 pub fn append(
     image: &mut [u8],
     shape: Shape,
@@ -38,7 +38,7 @@ pub fn append(
     }
 }
 
-/// Reads into the two lent buffers, and hands out the log's length and its first index.
+/// Reads a card into the two lent buffers, and hands out the log's length and its first index.
 pub fn read(
     image: &[u8],
     shape: Shape,
@@ -87,4 +87,35 @@ pub fn payload(
     let (pointer, len) = (image.as_ptr(), image.len());
     // SAFETY: the slice and the numbers are lent for the call, and none overlaps another.
     unsafe { exported::rope_payload(pointer, len, shape.into(), replica, slot, at, size) }
+}
+
+/// Appends an epoch to a witness's image, and hands out the slot.
+pub fn witness_append(
+    image: &mut [u8],
+    shape: Shape,
+    replica: usize,
+    epoch: u32,
+    slot: &mut usize,
+) -> u8 {
+    let (pointer, len) = (image.as_mut_ptr(), image.len());
+    // SAFETY: the slice and the number are lent for the call, and do not overlap.
+    unsafe { exported::rope_witness_append(pointer, len, shape.into(), replica, epoch, slot) }
+}
+
+/// Reads a witness's image into the lent buffer, and hands out the log's length and its first index.
+pub fn witness_read(
+    image: &[u8],
+    shape: Shape,
+    replica: usize,
+    epochs: &mut [u32],
+    used: &mut usize,
+    first: &mut u32,
+) -> u8 {
+    let (image, len) = (image.as_ptr(), image.len());
+    let (epochs, epochs_len) = (epochs.as_mut_ptr(), epochs.len());
+    let shape = shape.into();
+    // SAFETY: the slices and the numbers are lent for the call, and none overlaps another.
+    unsafe {
+        exported::rope_witness_read(image, len, shape, replica, epochs, epochs_len, used, first)
+    }
 }

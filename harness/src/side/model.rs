@@ -26,6 +26,8 @@ pub const MODEL: Side = Side {
     read,
     has_payload,
     payload,
+    witness_append,
+    witness_read,
     plan,
     step,
     run,
@@ -64,7 +66,7 @@ fn read_column(column: &[u8], value: &mut u64) -> Column {
 
 /// The model never meets a number too wide for its column, and would stop.
 fn fits(shape: Shape, replica: usize) -> bool {
-    let Shape { n, m, edition } = shape;
+    let Shape { n, m, edition, .. } = shape;
     edition.max(replica).max(n).max(m) < 1000
 }
 
@@ -73,13 +75,15 @@ fn header_of(shape: Shape, replica: usize, first: u32) -> Vec<u8> {
     if fits(shape, replica) {
         return model::write_header(shape, replica, first);
     }
-    let Shape { n, m, edition } = shape;
+    let Shape { n, m, edition, .. } = shape;
     // Edition 2 alone has the column of the first index.
     let (narrow, end) = match edition {
         2 => (Shape::edition_2(0, 0), 27),
         _ => (Shape::edition_1(0, 0), 16),
     };
-    let mut header = model::write_header(narrow, 0, first);
+    // Replica 1 has the fixed word that this one has.
+    let narrow = narrow.with_witnesses(shape.is_witness(replica).into());
+    let mut header = model::write_header(narrow, 1, first);
     write_number(&mut header[4..7], edition as u64);
     write_number(&mut header[7..10], replica as u64);
     write_number(&mut header[10..13], n as u64);
@@ -237,6 +241,29 @@ fn payload(
         _ => 0,
     };
     *size = part.len();
+}
+
+fn witness_append(
+    image: &mut [u8],
+    shape: Shape,
+    replica: usize,
+    epoch: u32,
+    slot: &mut usize,
+) -> u8 {
+    let appended = model::witness_append(image, shape, replica, epoch);
+    answer(appended, |found| *slot = found)
+}
+
+fn witness_read(
+    image: &[u8],
+    shape: Shape,
+    replica: usize,
+    epochs: &mut [u32],
+    used: &mut usize,
+    first: &mut u32,
+) -> u8 {
+    let read = model::witness_read(image, shape, replica, epochs);
+    answer(read, |found| (*used, *first) = found)
 }
 
 fn plan(

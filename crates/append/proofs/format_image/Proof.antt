@@ -8,6 +8,7 @@ use Rattle.slices.specs.Parts.{Bytes, spliced}
 use Rattle.record.specs.declared.Shape.{Shape}
 use Rattle.record.specs.Layout.{headerBytes}
 use Rattle.image.specs.Append.{formatRefusal}
+use Rattle.image.proofs.DecodeLaws.{size-is}
 use Rattle.image.proofs.AppendSteps.{format-refused, format-few, format-size, headed-size, blanked-size, format-done}
 use Rattle.append.proofs.format_image.Statement.{statement}
 use Rattle.append.proofs.format_image.Tie as tie
@@ -32,21 +33,21 @@ put-header-requires c κs =
     let s = c .before .before .before .before .args in
     let is = asked (s .shape) (s .replica) (s .first) (length (s .image .now)) (omega arith) (c .before .before .format-refusal .ensures) in
     let free = c .before .if1 .left in
-    omega (arith, format-size (s .shape) (s .replica) (s .first) (s .image .now) is free)
+    omega (arith, format-size (s .shape) (s .replica) (s .first) (s .image .now) is free, size-is (s .shape) (s .replica))
 
 put-blanks-requires : tie.Need-put-blanks-requires
 put-blanks-requires c κs =
     let s = c .before .before .before .before .before .before .before .before .args in
     let is = asked (s .shape) (s .replica) (s .first) (length (s .image .now)) (omega arith) (c .before .before .before .before .before .before .format-refusal .ensures) in
     let free = c .before .before .before .before .before .if1 .left in
-    (format-few (s .shape) (s .replica) (s .first) (s .image .now) is free, omega (arith, headed-size (s .shape) (s .replica) (s .first) (s .image .now) is free (headed (s .shape) (s .replica) (s .first) (s .image .now) (omega arith) (c .before .before .before .put-header .ensures))))
+    (format-few (s .shape) (s .replica) (s .first) (s .image .now) is free, omega (arith, headed-size (s .shape) (s .replica) (s .first) (s .image .now) is free (headed (s .shape) (s .replica) (s .first) (s .image .now) (omega arith) (c .before .before .before .put-header .ensures)), size-is (s .shape) (s .replica)))
 
-put-freshes-requires : tie.Need-put-freshes-requires
-put-freshes-requires c κs =
+put-entries-requires : tie.Need-put-entries-requires
+put-entries-requires c κs =
     let s = c .before .before .before .before .before .before .before .before .before .before .before .before .args in
     let is = asked (s .shape) (s .replica) (s .first) (length (s .image .now)) (omega arith) (c .before .before .before .before .before .before .before .before .before .before .format-refusal .ensures) in
     let free = c .before .before .before .before .before .before .before .before .before .if1 .left in
-    (format-few (s .shape) (s .replica) (s .first) (s .image .now) is free, omega (arith, blanked-size (s .shape) (s .replica) (s .first) (s .image .now) is free (headed (s .shape) (s .replica) (s .first) (s .image .now) (omega arith) (c .before .before .before .before .before .before .before .put-header .ensures)) (c .before .before .before .put-blanks .ensures)))
+    (format-few (s .shape) (s .replica) (s .first) (s .image .now) is free, blanked-size (s .shape) (s .replica) (s .first) (s .image .now) is free (headed (s .shape) (s .replica) (s .first) (s .image .now) (omega arith) (c .before .before .before .before .before .before .before .put-header .ensures)) (c .before .before .before .put-blanks .ensures))
 
 same-length : tie.Need-same-length
 same-length c = search needs
@@ -56,7 +57,7 @@ returns-2 c =
     let s = c .before .before .before .before .before .before .before .before .before .before .before .before .before .before .before .args in
     let is = asked (s .shape) (s .replica) (s .first) (length (s .image .now)) (omega arith) (c .before .before .before .before .before .before .before .before .before .before .before .before .before .format-refusal .ensures) in
     let free = c .before .before .before .before .before .before .before .before .before .before .before .before .if1 .left in
-    format-done (s .shape) (s .replica) (s .first) (s .image .now) is free (headed (s .shape) (s .replica) (s .first) (s .image .now) (omega arith) (c .before .before .before .before .before .before .before .before .before .before .put-header .ensures)) (c .before .before .before .before .before .before .put-blanks .ensures) (c .before .before .put-freshes .ensures)
+    format-done (s .shape) (s .replica) (s .first) (s .image .now) is free (headed (s .shape) (s .replica) (s .first) (s .image .now) (omega arith) (c .before .before .before .before .before .before .before .before .before .before .put-header .ensures)) (c .before .before .before .before .before .before .put-blanks .ensures) (c .before .before .put-entries .ensures)
 
 pub format-image-spec : {M : Type 1} → statement M
 format-image-spec =
@@ -66,6 +67,6 @@ format-image-spec =
     returns
     put-header-requires
     put-blanks-requires
-    put-freshes-requires
+    put-entries-requires
     same-length
     returns-2)

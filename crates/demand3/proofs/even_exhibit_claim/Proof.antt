@@ -6,7 +6,8 @@ use mathlib.Core.List.{[], _∷_}
 use native.Mathlib.Omega.{arith}
 use lib.ListN.{length-replicate}
 use Rattle.image.specs.Image.{index}
-use Rattle.planner.specs.Setting.{settingOf, has}
+use Rattle.search.specs.Sets.{has}
+use Rattle.planner.specs.Setting.{settingOf}
 use Rattle.protocol.specs.Call.{run, budgetOf, refusalOf}
 use Rattle.protocol.specs.Store.{storeEntry}
 use Rattle.protocol.specs.StepBytes.{stepsBytes}

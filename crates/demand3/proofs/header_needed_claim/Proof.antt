@@ -1,6 +1,7 @@
 -- What the images and the step come to is computed.
 use Prim.Native.Nat.{ℕ, zero, suc, _≤_, _<_}
 use mathlib.Core.Path.{_≡_, refl, _∙_}
+use mathlib.Core.Bool.{false}
 use native.Mathlib.Omega.{arith}
 use Rattle.search.specs.Search.{lowest, count, sum, oneIf}
 use Rattle.slices.specs.Parts.{Bytes}
@@ -60,7 +61,7 @@ alike c = record { epochs = epochs; payloads = payloads }
     payloads zero l = refl
     payloads (suc k) l = absurd (omega arith)
 
-many : majority 3 ≤ count (λ c. committed 3 2 payloadA (misheadedLogs c)) 3
+many : majority 3 ≤ count (λ c. committed false 3 2 payloadA (misheadedLogs c)) 3
 unfolding majority count sum oneIf committed held misheadedLogs historyOf undamagedMisheaded imageFrom noFlights epochAt epochOf logLength lowest isBlank payloadIn payloadAt payloadA same firstIndex
 many = omega arith
 

@@ -2,7 +2,7 @@
 use Prim.Native.Nat.{ℕ, _+_, _-_, _≤_, _<_}
 use mathlib.Core.Path.{_≡_, refl, sym, _∙_}
 use mathlib.Core.Bool.{true, false, true≢false}
-use mathlib.Core.Logic.{_⊎_, inl, inr}
+use mathlib.Core.Logic.{_⊎_, inl, inr, ⊎-elim}
 use native.Mathlib.Omega.{arith}
 use native.Mathlib.Decide.{ℕ-discrete, decLt}
 use Rattle.slices.specs.Parts.{Bytes}
@@ -13,13 +13,15 @@ use Rattle.record.specs.Meaning.{isFirst}
 use Rattle.record.proofs.LayoutLaws.{gives-two, gives-other}
 use Rattle.record.proofs.HeaderLaws.{first-low, last-high, first-one, is-first}
 use Rattle.image.specs.Image.{decodeImage}
-use Rattle.image.specs.View.{logLength, namedRefusal, readRefusal}
+use Rattle.image.specs.View.{logLength, namedRefusal, cardRefusal, witnessRefusal}
 use Rattle.image.specs.Append.{lastEpoch, appendRefusal}
-use Rattle.image.specs.RefusalClaim.{FirstRefused, zero-first, other-first, last-past, FormatRefused, AppendRefused}
+use Rattle.image.specs.Witness.{recordRefusal}
+use Rattle.image.specs.RefusalClaim.{FirstRefused, zero-first, other-first, last-past, FormatRefused, AppendRefused, RecordRefused}
 use Rattle.image.proofs.RefusalLaws.{else-first, else-next}
 use Rattle.image.proofs.CallLaws.{slots-high, named-slots-in, edition-from, edition-to, named-edition-in, format-named, format-first, format-bytes, format-none}
-use Rattle.image.proofs.AppendSteps.{deny-zero, deny-lower, deny-long, deny-full, deny-none}
-use Rattle.image.proofs.RefusedLaws.{lowest-wins}
+use Rattle.image.proofs.AppendSteps.{bare, deny-zero, deny-lower, deny-long, deny-full, deny-none}
+use Rattle.image.proofs.RefusedLaws.{lowest-wins, lowest-card, lowest-witness}
+use Rattle.image.proofs.CardLaws.{card-as-read}
 use Rattle.image.proofs.refusal_claim.Statement.{statement}
 use Rattle.image.proofs.refusal_claim.Tie as tie
 
@@ -75,16 +77,47 @@ append-refused Z c b e size = record {
     last : ℕ
     last = lastEpoch (Z .m) (decodeImage Z c b)
 
-    lower : readRefusal Z c b ≡ 0 → e < last → Dec (e ≡ 0) → appendRefusal Z c b e size ≡ 8
+    lower : cardRefusal Z c b ≡ 0 → e < last → Dec (e ≡ 0) → appendRefusal Z c b e size ≡ 8
     lower r h (yes z) = else-next _ r ∙ sym (deny-zero last len (Z .m) e size z)
     lower r h (no z) = else-next _ r ∙ sym (deny-lower last len (Z .m) e size z h)
 
-    low : readRefusal Z c b ≡ 0 → (e ≡ 0) ⊎ (e < last) → appendRefusal Z c b e size ≡ 8
+    low : cardRefusal Z c b ≡ 0 → (e ≡ 0) ⊎ (e < last) → appendRefusal Z c b e size ≡ 8
     low r (inl z) = else-next _ r ∙ sym (deny-zero last len (Z .m) e size z)
     low r (inr h) = lower r h (ℕ-discrete e 0)
 
+-- a witness's has no payload: as one of 0 bytes
+record-refused : (Z : Shape) (c : ℕ) (b : Bytes) (e : ℕ) → RecordRefused Z c b e (logLength (Z .m) (decodeImage Z c b)) (lastEpoch (Z .m) (decodeImage Z c b))
+unfolding recordRefusal
+record-refused Z c b e = record {
+  one-to-seven = λ h. else-first _ _ h;
+  eight = λ r h. ⊎-elim (λ z. zero-epoch r (omega (arith, z))) (λ l. lower r (omega (arith, l)) (ℕ-discrete e 0)) h;
+  ten = λ r p q l. else-next _ r ∙ sym (bare _ _) ∙ sym (deny-full last len (Z .m) e 0 (λ z. omega arith) q (omega arith) (omega arith));
+  none = λ r p q l. else-next _ r ∙ sym (bare _ _) ∙ sym (deny-none last len (Z .m) e 0 (λ z. omega arith) q (omega arith) (omega (arith, l)));
+}
+  where
+    len : ℕ
+    len = logLength (Z .m) (decodeImage Z c b)
+
+    last : ℕ
+    last = lastEpoch (Z .m) (decodeImage Z c b)
+
+    lower : witnessRefusal Z c b ≡ 0 → e < last → Dec (e ≡ 0) → recordRefusal Z c b e ≡ 8
+    lower r h (yes z) = else-next _ r ∙ sym (bare _ _) ∙ sym (deny-zero last len (Z .m) e 0 z)
+    lower r h (no z) = else-next _ r ∙ sym (bare _ _) ∙ sym (deny-lower last len (Z .m) e 0 z h)
+
+    zero-epoch : witnessRefusal Z c b ≡ 0 → e ≡ 0 → recordRefusal Z c b e ≡ 8
+    zero-epoch r z = else-next _ r ∙ sym (bare _ _) ∙ sym (deny-zero last len (Z .m) e 0 z)
+
 returns : tie.Need-returns
-returns z = record { reading = lowest-wins; formatting = format-refused; appending = append-refused }
+returns z = record {
+  reading = lowest-wins;
+  cards = lowest-card;
+  witnesses = lowest-witness;
+  card-as-before = card-as-read;
+  formatting = format-refused;
+  appending = append-refused;
+  recording = record-refused;
+}
 
 pub refusal-claim-spec : {M : Type 1} → statement M
 refusal-claim-spec = tie.close (tie.spec returns)

@@ -13,7 +13,7 @@ entry-at-requires : tie.Need-entry-at-requires
 entry-at-requires c κs = search needs
 
 add-result : tie.Need-add-result
-add-result c = omega (arith, entry-fits (c .before .before .args .shape) (suc (c .before .before .args .c)) (c .before .before .args .k) (c .before .before .pre .1))
+add-result c = omega (arith, entry-fits (c .before .before .args .shape) (suc (c .before .before .args .c)) (c .before .before .args .k) (c .before .before .pre .1) (c .before .before .pre .2))
 
 returns : tie.Need-returns
 returns c = search needs

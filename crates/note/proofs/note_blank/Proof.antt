@@ -9,7 +9,7 @@ with-slot-requires : tie.Need-with-slot-requires
 with-slot-requires c κs = search needs
 
 returns : tie.Need-returns
-returns c = noted-blank _ _ _ _ (c .with-slot .ensures) (omega arith)
+returns c = λ Z. noted-blank Z _ _ _ _ (c .with-slot .ensures) (omega arith)
 
 pub note-blank-spec : {M : Type 1} → statement M
 note-blank-spec = tie.close (tie.spec with-slot-requires returns)

@@ -12,7 +12,7 @@ element-copy-out-length : tie.Need-element-copy-out-length
 element-copy-out-length c = search needs
 
 returns : tie.Need-returns
-returns c = noted-entry _ _ _ (omega arith)
+returns c = λ Z. noted-entry Z _ _ _ (omega arith)
 
 mul-epoch : tie.Need-mul-epoch
 mul-epoch c = search needs
@@ -30,7 +30,7 @@ with-slot-requires : tie.Need-with-slot-requires
 with-slot-requires c κs = search needs
 
 returns-2 : tie.Need-returns-2
-returns-2 c = noted-mended _ _ _ _ (omega arith) (c .with-slot .ensures) (omega arith)
+returns-2 c = λ Z. noted-mended Z _ _ _ _ (omega arith) (c .with-slot .ensures) (omega arith)
 
 pub note-entry-spec : {M : Type 1} → statement M
 note-entry-spec =

@@ -1,4 +1,4 @@
--- `note_record` makes a slot whole, whether it was used or not.
+-- `note_record` leaves nothing to do at a slot, whether it was used or not.
 use Rattle.recovery.proofs.NoteLaws.{noted-record}
 use native.Mathlib.Omega.{arith}
 use borrow.Author.Needs.{needs}
@@ -14,11 +14,14 @@ element-copy-out-length-with c = search needs
 length-with-requires : tie.Need-length-with-requires
 length-with-requires c κs = search needs
 
+recorded-requires : tie.Need-recorded-requires
+recorded-requires c κs = search needs
+
 with-slot-requires : tie.Need-with-slot-requires
 with-slot-requires c κs = search needs
 
 returns : tie.Need-returns
-returns c = noted-record _ _ _ _ _ (c .before .length-with .ensures) (c .with-slot .ensures) (omega arith)
+returns c = noted-record _ _ _ _ _ _ (c .before .before .length-with .ensures) (c .with-slot .ensures) (c .before .recorded .ensures)
 
 pub note-record-spec : {M : Type 1} → statement M
 note-record-spec =
@@ -27,5 +30,6 @@ note-record-spec =
     mul-length-with
     element-copy-out-length-with
     length-with-requires
+    recorded-requires
     with-slot-requires
     returns)

@@ -35,13 +35,13 @@ returns : tie.Need-returns
 returns c = no-store _ (ap storeOf (c .enum-told .given .1))
 
 returns-2 : tie.Need-returns-2
-returns-2 c = that-store _ (ap storeOf (c .before .before .store .given .1)) (c .note-entry .ensures _)
+returns-2 c = that-store _ (ap storeOf (c .before .before .store .given .1)) (c .note-entry .ensures _ _)
 
 returns-3 : tie.Need-returns-3
 returns-3 c = that-store _ (ap storeOf (c .before .before .store2 .given .1)) (c .note-record .ensures)
 
 returns-4 : tie.Need-returns-4
-returns-4 c = that-store _ (ap storeOf (c .before .before .store3 .given .1)) (c .note-blank .ensures)
+returns-4 c = that-store _ (ap storeOf (c .before .before .store3 .given .1)) (c .note-blank .ensures _)
 
 pub note-store-spec : {M : Type 1} → statement M
 note-store-spec =

@@ -3,10 +3,8 @@ use mathlib.Core.Path.{sym, _∙_}
 use borrow.Author.Tests.{not-true, not-false}
 use Rattle.planner.specs.Plan.{viewsIn}
 use Rattle.protocol.specs.Recovery.{unlike}
-use Rattle.protocol.proofs.UnlikeLaws.{unlike-found}
 use Rattle.recovery.specs.Look.{clusterIn}
-use Rattle.recovery.proofs.BeginsLaws.{survey-one}
-use Rattle.recovery.proofs.FollowerLaws.{looked, looked-leader, image-within}
+use Rattle.recovery.proofs.FollowerLaws.{looked, looked-leader}
 use Rattle.recovery.proofs.FollowerStoreLaws.{missing-none, missing-entry, missing-record}
 use native.Mathlib.Omega.{arith}
 use borrow.Author.Needs.{needs}
@@ -34,10 +32,8 @@ returns c =
     let y = looked s (v .shape-is) _ h (sym (s .surveyed .readable-is _ h) ∙ c .before .before .before .before .pre .replica-reads) in
     missing-none S (viewsIn S (c .before .before .before .before .args .cluster .now)) (unlike S (clusterIn S (c .before .before .before .before .args .cluster .now)) (c .before .before .before .before .args .c)) _ _ (s .leader-is) _ _ _ _ _ x y (c .if1 .taken)
 
-entry-differs-requires : tie.Need-entry-differs-requires
-entry-differs-requires c κs =
-    let r = c .before .before .before .before .pre .in-range in
-    ((omega arith, omega arith), (image-within r _ (c .before .before .before .before .pre .replica-below), image-within r _ (r .leader-below)))
+lacks-entry-requires : tie.Need-lacks-entry-requires
+lacks-entry-requires c κs = let r = c .before .before .before .before .pre .in-range in (c .before .before .before .before .pre, omega (arith, r .leader-fits))
 
 mul-epoch : tie.Need-mul-epoch
 mul-epoch c = search needs
@@ -59,8 +55,7 @@ returns-2 c =
     let h = c .before .before .before .before .before .before .before .pre .replica-below in
     let on = sym (s .surveyed .readable-is _ h) ∙ c .before .before .before .before .before .before .before .pre .replica-reads in
     let y = looked s (v .shape-is) _ h on in
-    let u = unlike-found S (c .before .before .before .before .before .before .before .args .cluster .now) _ _ _ _ (v .shape-is) (s .leader-is) (survey-one (c .before .before .before .before .before .before .before .args .cluster .now) s _ h on) (y .length-is) (omega arith) in
-    missing-record S (viewsIn S (c .before .before .before .before .before .before .before .args .cluster .now)) _ _ _ (s .leader-is) _ _ _ _ _ x y (c .before .before .before .if1 .left) (u ∙ sym (c .before .before .entry-differs .ensures) ∙ not-true _ (c .before .if2 .taken))
+    missing-record S (viewsIn S (c .before .before .before .before .before .before .before .args .cluster .now)) _ _ _ (s .leader-is) _ _ _ _ _ x y (c .before .before .before .if1 .left) (sym (c .before .before .lacks-entry .ensures S v (y .length-is)) ∙ not-true _ (c .before .if2 .taken))
 
 returns-3 : tie.Need-returns-3
 returns-3 c =
@@ -70,8 +65,7 @@ returns-3 c =
     let h = c .before .before .before .before .before .before .pre .replica-below in
     let on = sym (s .surveyed .readable-is _ h) ∙ c .before .before .before .before .before .before .pre .replica-reads in
     let y = looked s (v .shape-is) _ h on in
-    let u = unlike-found S (c .before .before .before .before .before .before .args .cluster .now) _ _ _ _ (v .shape-is) (s .leader-is) (survey-one (c .before .before .before .before .before .before .args .cluster .now) s _ h on) (y .length-is) (omega arith) in
-    missing-entry S (viewsIn S (c .before .before .before .before .before .before .args .cluster .now)) _ _ _ (s .leader-is) _ _ _ _ _ x y (c .before .before .if1 .left) (u ∙ sym (c .before .entry-differs .ensures) ∙ not-false _ (c .if2 .left))
+    missing-entry S (viewsIn S (c .before .before .before .before .before .before .args .cluster .now)) _ _ _ (s .leader-is) _ _ _ _ _ x y (c .before .before .if1 .left) (sym (c .before .lacks-entry .ensures S v (y .length-is)) ∙ not-false _ (c .if2 .left))
 
 pub missing-store-spec : {M : Type 1} → statement M
-missing-store-spec = tie.close (tie.spec mul-k element-copy-out-k mul-if1 element-copy-out-if1 returns entry-differs-requires mul-epoch add-epoch mul-epoch-2 element-copy-out-epoch returns-2 returns-3)
+missing-store-spec = tie.close (tie.spec mul-k element-copy-out-k mul-if1 element-copy-out-if1 returns lacks-entry-requires mul-epoch add-epoch mul-epoch-2 element-copy-out-epoch returns-2 returns-3)

@@ -8,6 +8,7 @@ use Rattle.planner.proofs.VerdictTies.{faulty-verdict, used-verdict}
 use Rattle.planner.proofs.AskingLaws as law
 use Rattle.planner.proofs.FirstLaws.{view-first, first-one, same-one}
 use Rattle.planner.proofs.MajorityLaws as many
+use Rattle.planner.proofs.WitnessLaws as witness
 use Rattle.planner.proofs.asking_claim.Statement.{statement}
 use Rattle.planner.proofs.asking_claim.Tie as tie
 
@@ -21,6 +22,11 @@ returns z = record {
   first-one = λ S b c e. first-one S b c (omega arith);
   same-one = same-one;
   one-answer = law.one-answer;
+  witness-good = λ S F k c e w on g. witness.witness-good S F k c w on e g;
+  witness-other = λ S F k c e w on g. witness.witness-other S F k c w on e g;
+  witness-blank = λ S F k c w on g. witness.witness-blank S F k c w on g;
+  witness-donates = λ S F k c w. witness.witness-donates S F k c w;
+  witness-leads = witness.witness-leads;
   majority-odd = λ k. omega (arith, many.majority-odd k);
   majority-four = unfold majority in omega arith;
   majority-six = unfold majority in omega arith;

@@ -10,9 +10,9 @@ use Rattle.print.proofs.report_of.Statement.{statement}
 use Rattle.print.proofs.report_of.Tie as tie
 
 -- what is printed of a cluster of edition e, which is 1
-printed : (n m e leader present : ℕ) (b : Bytes) {page bytes : Bytes} {count : ℕ} → Prints (clusterReport (record { n = n; m = m; edition = e }) leader present b) bytes count → e ≡ 1
+printed : (n m e leader present : ℕ) (b : Bytes) {page bytes : Bytes} {count : ℕ} → Prints (clusterReport (record { n = n; m = m; edition = e; witnesses = 0 }) leader present b) bytes count → e ≡ 1
     → clusterReport (firstEdition n m) leader present b ≡ page → Prints page bytes count
-printed n m e leader present b p q f = law.prints (ap (λ (z : ℕ). clusterReport (record { n = n; m = m; edition = z }) leader present b) q ∙ f) p
+printed n m e leader present b p q f = law.prints (ap (λ (z : ℕ). clusterReport (record { n = n; m = m; edition = z; witnesses = 0 }) leader present b) q ∙ f) p
 
 report-refusal-requires : tie.Need-report-refusal-requires
 report-refusal-requires c κs = search needs

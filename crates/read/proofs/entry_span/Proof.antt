@@ -36,7 +36,7 @@ returns-2 c =
     let found = c .before .before .-epoch .given .1 in
     let km = c .before .before .before .before .before .before .pre .1 in
     let at : c .entry-at .result + 26 ≡ entryAt (c .before .before .before .before .before .before .args .shape) (c .before .before .before .before .before .before .args .k) + 26 = ap (λ (z : ℕ). z + 26) (c .entry-at .ensures) in
-    (record { ordered = omega arith; within = span-fits _ _ _ _ km _ there found at (c .before .before .before .before .before .before .pre .2) }, λ i w. span-there _ _ _ _ km _ there found at)
+    (record { ordered = omega arith; within = span-fits _ _ _ _ km _ there found at (c .before .before .before .before .before .before .pre .2) }, λ i card w. span-there _ _ _ _ km _ there found at)
 
 pub entry-span-spec : {M : Type 1} → statement M
 entry-span-spec =

@@ -25,7 +25,7 @@ all-bytes-requires : tie.Need-all-bytes-requires
 all-bytes-requires c κs = search needs
 
 returns : tie.Need-returns
-returns c = λ i first. fresh-judged _ first _ _ (c .before .before .before .before .pre .2) (c .before .before .entry-at .ensures) (c .all-bytes .ensures) i (c .before .before .before .before .pre .1)
+returns c = λ i first card. fresh-judged _ first _ _ (c .before .before .before .before .pre .2) (c .before .before .entry-at .ensures) (c .all-bytes .ensures) i card (c .before .before .before .before .pre .1)
 
 pub is-fresh-spec : {M : Type 1} → statement M
 is-fresh-spec =

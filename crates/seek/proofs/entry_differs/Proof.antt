@@ -11,7 +11,7 @@ entry-in-requires c κs = search needs
 
 add-own-end : tie.Need-add-own-end
 add-own-end c =
-    let r = entry-room (c .before .before .args .shape) (c .before .before .args .c) (c .before .before .args .k) _ (c .before .before .pre .0 .1) (c .before .before .pre .1 .0) in
+    let r = entry-room (c .before .before .args .shape) (c .before .before .args .c) (c .before .before .args .k) _ (c .before .before .pre .0 .1) (c .before .before .pre .1 .0 .1) (c .before .before .pre .1 .0 .0) in
     omega (arith, c .entry-in .ensures)
 
 entry-in-requires-2 : tie.Need-entry-in-requires-2
@@ -19,7 +19,7 @@ entry-in-requires-2 c κs = search needs
 
 add-other-end : tie.Need-add-other-end
 add-other-end c =
-    let r = entry-room (c .before .before .before .args .shape) (c .before .before .before .args .leader) (c .before .before .before .args .k) _ (c .before .before .before .pre .0 .1) (c .before .before .before .pre .1 .1) in
+    let r = entry-room (c .before .before .before .args .shape) (c .before .before .before .args .leader) (c .before .before .before .args .k) _ (c .before .before .before .pre .0 .1) (c .before .before .before .pre .1 .1 .1) (c .before .before .before .pre .1 .1 .0) in
     omega (arith, c .entry-in2 .ensures)
 
 sub-same-bytes : tie.Need-sub-same-bytes
@@ -30,7 +30,7 @@ part-same-bytes-start c = search needs
 
 part-same-bytes-end : tie.Need-part-same-bytes-end
 part-same-bytes-end c =
-    let r = entry-room (c .before .before .before .args .shape) (c .before .before .before .args .c) (c .before .before .before .args .k) _ (c .before .before .before .pre .0 .1) (c .before .before .before .pre .1 .0) in
+    let r = entry-room (c .before .before .before .args .shape) (c .before .before .before .args .c) (c .before .before .before .args .k) _ (c .before .before .before .pre .0 .1) (c .before .before .before .pre .1 .0 .1) (c .before .before .before .pre .1 .0 .0) in
     let e = c .before .entry-in .ensures in
     search needs
 
@@ -42,7 +42,7 @@ part-same-bytes-start-2 c = search needs
 
 part-same-bytes-end-2 : tie.Need-part-same-bytes-end-2
 part-same-bytes-end-2 c =
-    let r = entry-room (c .before .before .before .before .args .shape) (c .before .before .before .before .args .leader) (c .before .before .before .before .args .k) _ (c .before .before .before .before .pre .0 .1) (c .before .before .before .before .pre .1 .1) in
+    let r = entry-room (c .before .before .before .before .args .shape) (c .before .before .before .before .args .leader) (c .before .before .before .before .args .k) _ (c .before .before .before .before .pre .0 .1) (c .before .before .before .before .pre .1 .1 .1) (c .before .before .before .before .pre .1 .1 .0) in
     let e = c .before .entry-in2 .ensures in
     search needs
 

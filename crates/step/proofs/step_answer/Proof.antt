@@ -14,7 +14,7 @@ enum-known-store c = search needs
 stored-at-requires : tie.Need-stored-at-requires
 stored-at-requires c κs =
     let f = rw (c .before .store .given .1) at (c .before .before .before .pre .1) in
-    (omega (arith, replica-few _ _ (f .1)), omega (arith, f .0))
+    (omega (arith, replica-few _ _ (f .1 .1)), omega (arith, f .0))
 
 enum-known-store-2 : tie.Need-enum-known-store-2
 enum-known-store-2 c = search needs

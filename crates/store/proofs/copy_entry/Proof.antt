@@ -13,7 +13,7 @@ entry-in-requires c κs = search needs
 add-from-end : tie.Need-add-from-end
 add-from-end c =
     let a = c .before .before .args in
-    let r = entry-room (a .shape) (a .donor) (a .k) _ (c .before .before .pre .1) (c .before .before .pre .3) in
+    let r = entry-room (a .shape) (a .donor) (a .k) _ (c .before .before .pre .1) (c .before .before .pre .3 .1) (c .before .before .pre .3 .0) in
     omega (arith, c .entry-in .ensures)
 
 sub-load-entry : tie.Need-sub-load-entry
@@ -25,7 +25,7 @@ part-load-entry-start c = search needs
 part-load-entry-end : tie.Need-part-load-entry-end
 part-load-entry-end c =
     let a = c .before .before .before .args in
-    let r = entry-room (a .shape) (a .donor) (a .k) _ (c .before .before .before .pre .1) (c .before .before .before .pre .3) in
+    let r = entry-room (a .shape) (a .donor) (a .k) _ (c .before .before .before .pre .1) (c .before .before .before .pre .3 .1) (c .before .before .before .pre .3 .0) in
     let e = c .before .entry-in .ensures in
     search needs
 
@@ -38,7 +38,7 @@ entry-in-requires-2 c κs = search needs
 add-to-end : tie.Need-add-to-end
 add-to-end c =
     let p = c .before .before .before .before .before .before in
-    let r = entry-room (p .args .shape) (p .args .c) (p .args .k) _ (p .pre .1) (p .pre .2) in
+    let r = entry-room (p .args .shape) (p .args .c) (p .args .k) _ (p .pre .1) (p .pre .2 .1) (p .pre .2 .0) in
     omega (arith, c .entry-in2 .ensures)
 
 sub-write-entry-bytes : tie.Need-sub-write-entry-bytes
@@ -50,7 +50,7 @@ part-write-entry-bytes-start c = search needs
 part-write-entry-bytes-end : tie.Need-part-write-entry-bytes-end
 part-write-entry-bytes-end c =
     let p = c .before .before .before .before .before .before in
-    let r = entry-room (p .args .shape) (p .args .c) (p .args .k) _ (p .pre .1) (p .pre .2) in
+    let r = entry-room (p .args .shape) (p .args .c) (p .args .k) _ (p .pre .1) (p .pre .2 .1) (p .pre .2 .0) in
     let e = c .entry-in2 .ensures in
     search needs
 
@@ -66,7 +66,7 @@ same-length c = search needs
 returns : tie.Need-returns
 returns c =
     let p = c .before .before .before .before .before .before .before .before .before .before .before in
-    let r = entry-room (p .args .shape) (p .args .donor) (p .args .k) _ (p .pre .1) (p .pre .3) in
+    let r = entry-room (p .args .shape) (p .args .donor) (p .args .k) _ (p .pre .1) (p .pre .3 .1) (p .pre .3 .0) in
     let from = c .before .before .before .before .before .before .before .before .before .entry-in .ensures in
     let to = c .before .before .before .before .before .entry-in2 .ensures in
     rw (← to, ← from) (spliced-copy (p .args .cluster .now) _ _ entrySize (omega arith) (c .before .before .before .before .before .before .load-entry .ensures) (c .before .before .write-entry-bytes .ensures))

@@ -48,7 +48,7 @@ enum-known-store c = search needs
 copy-entry-requires : tie.Need-copy-entry-requires
 copy-entry-requires c κs =
     let f = rw (c .before .before .store .given .1) at (c .before .before .before .before .before .pre .0 .1) in
-    (omega arith, omega arith, omega arith, omega arith)
+    (omega arith, omega arith, (f .1 .0, omega arith), (f .2 .0, omega arith))
 
 enum-known-store-2 : tie.Need-enum-known-store-2
 enum-known-store-2 c = search needs

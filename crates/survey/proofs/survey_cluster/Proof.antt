@@ -59,6 +59,12 @@ mul-lengths c = search needs
 array-write-lengths : tie.Need-array-write-lengths Inv-replicas μ-replicas
 array-write-lengths c = search needs
 
+add-is-witness : tie.Need-add-is-witness Inv-replicas μ-replicas
+add-is-witness c = search needs
+
+is-witness-requires : tie.Need-is-witness-requires Inv-replicas μ-replicas
+is-witness-requires c κs = search needs
+
 copy-slots-requires : tie.Need-copy-slots-requires Inv-replicas μ-replicas
 copy-slots-requires c κs = search needs
 
@@ -70,14 +76,14 @@ replicas-less-3 c = search needs
 
 replicas-again-3 : tie.Need-replicas-again-3 Inv-replicas μ-replicas
 replicas-again-3 c =
-    let d = c .before .before .before .before in
+    let d = c .before .before .before .before .before in
     let v = d .before .before .view-replica .ensures in
     let old = d .before .before .before .before .before .before .before in (
       search needs,
       search needs,
-      seen-more _ _ _ _ (old .replicas .inv .2) (omega arith) (slots-high _ (old .before .before .pre .1))
+      seen-more _ _ _ _ (c .before .before .before .is-witness .ensures) (omega arith) (old .replicas .inv .2) (omega arith) (slots-high _ (old .before .before .pre .1))
           (sym (d .before .before .before .before .contains .ensures) ∙ not-false _ (d .before .before .before .if2 .left)) (omega (arith, v .0)) (v .1 (omega arith))
-          (c .copy-slots .ensures .0) (c .copy-slots .ensures .1) (c .before .before .before .insert .ensures) (omega arith) (omega arith),
+          (c .copy-slots .ensures .0) (c .copy-slots .ensures .1) (c .before .before .before .before .insert .ensures) (omega arith) (omega arith),
     )
 
 returns : tie.Need-returns Inv-replicas μ-replicas
@@ -103,6 +109,8 @@ survey-cluster-spec =
     array-write-firsts
     mul-lengths
     array-write-lengths
+    add-is-witness
+    is-witness-requires
     copy-slots-requires
     add-c-3
     replicas-less-3

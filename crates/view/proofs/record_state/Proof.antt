@@ -1,5 +1,5 @@
 -- `record_state` judges the part of the image at which the record of slot k stands.
-use Rattle.image.proofs.DecodeLaws.{record-ends}
+use Rattle.image.proofs.AppendSteps.{record-within}
 use Rattle.image.proofs.SlotLaws.{record-judged}
 use native.Mathlib.Omega.{arith}
 use borrow.Author.Needs.{needs}
@@ -10,7 +10,7 @@ record-at-requires : tie.Need-record-at-requires
 record-at-requires c κs = search needs
 
 add-e : tie.Need-add-e
-add-e c = omega (arith, record-ends (c .before .before .args .shape) (c .before .before .args .k) (c .before .before .pre .1), c .before .before .pre .2)
+add-e c = omega (arith, record-within (c .before .before .args .shape) (c .before .before .args .k) (c .before .before .args .image .now) (c .before .before .pre .1) (c .before .before .pre .2) (c .record-at .ensures))
 
 sub-judge-record : tie.Need-sub-judge-record
 sub-judge-record c = search needs
@@ -19,7 +19,7 @@ part-judge-record-start : tie.Need-part-judge-record-start
 part-judge-record-start c = search needs
 
 part-judge-record-end : tie.Need-part-judge-record-end
-part-judge-record-end c = omega (arith, record-ends (c .before .before .args .shape) (c .before .before .args .k) (c .before .before .pre .1), c .before .before .pre .2)
+part-judge-record-end c = omega (arith, record-within (c .before .before .args .shape) (c .before .before .args .k) (c .before .before .args .image .now) (c .before .before .pre .1) (c .before .before .pre .2) (c .record-at .ensures))
 
 index-of-requires : tie.Need-index-of-requires
 index-of-requires c κs = search needs

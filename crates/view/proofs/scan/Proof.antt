@@ -1,5 +1,5 @@
 -- `scan` fills both arrays from the front.
-use Prim.Native.Nat.{ℕ, _-_, _≤_}
+use Prim.Native.Nat.{_-_, _≤_}
 use mathlib.Core.Path.{_≡_}
 use native.Mathlib.Omega.{arith}
 use lib.ListN.{length}
@@ -11,13 +11,13 @@ use Rattle.view.proofs.scan.Statement.{statement}
 use Rattle.view.proofs.scan.Tie as tie
 
 abbrev Inv-loop : tie.InvT-loop
-Inv-loop image shape first m conditions₀ epochs₀ k₀ conditions epochs k = (k ≤ m) × (length conditions ≡ 64) × (length epochs ≡ 64) × ((c : ℕ) → Scanned k (decodeUnder shape c first image) conditions epochs)
+Inv-loop image shape replica first m conditions₀ epochs₀ k₀ conditions epochs k = (k ≤ m) × (length conditions ≡ 64) × (length epochs ≡ 64) × Scanned k (decodeUnder shape replica first image) conditions epochs
 
 abbrev μ-loop : tie.MeasureT-loop
-μ-loop image shape first m conditions₀ epochs₀ k₀ conditions epochs k = m - k
+μ-loop image shape replica first m conditions₀ epochs₀ k₀ conditions epochs k = m - k
 
 loop-holds : tie.Need-loop-holds Inv-loop μ-loop
-loop-holds c = (search needs, search needs, search needs, λ i. scan-start _ _ _)
+loop-holds c = (search needs, search needs, search needs, scan-start _ _ _)
 
 slot-at-requires : tie.Need-slot-at-requires Inv-loop μ-loop
 slot-at-requires c κs = search needs
@@ -38,10 +38,10 @@ loop-less : tie.Need-loop-less Inv-loop μ-loop
 loop-less c = search needs
 
 loop-again : tie.Need-loop-again Inv-loop μ-loop
-loop-again c = (search needs, search needs, search needs, λ i. scan-more _ _ _ _ _ _ (omega arith) (omega arith) (c .before .before .loop .inv .3 i) (c .slot-at .ensures i))
+loop-again c = (search needs, search needs, search needs, scan-more _ _ _ _ _ _ (omega arith) (omega arith) (c .before .before .loop .inv .3) (c .slot-at .ensures))
 
 returns : tie.Need-returns Inv-loop μ-loop
-returns c = λ i. scan-end _ _ _ _ _ (omega arith) (omega arith) (c .before .loop .inv .3 i)
+returns c = scan-end _ _ _ _ _ (omega arith) (omega arith) (c .before .loop .inv .3)
 
 pub scan-spec : {M : Type 1} → statement M
 scan-spec =

@@ -12,7 +12,7 @@ use Rattle.image.specs.Image.{Image, decodeUnder}
 use Rattle.image.specs.Seen.{Seen}
 use Rattle.image.specs.Scan.{Scanned}
 use Rattle.image.proofs.CallLaws.{slots-high}
-use Rattle.image.proofs.DecodeLaws.{size-is, entries-end}
+use Rattle.image.proofs.DecodeLaws.{size-is}
 use Rattle.image.proofs.ScanLaws.{length-within}
 use Rattle.image.proofs.SeenLaws.{view-improper, view-scanned, view-seen}
 use native.Mathlib.Omega.{arith}
@@ -70,7 +70,7 @@ returns c =
 scan-requires : tie.Need-scan-requires
 scan-requires c κs =
     let s = c .before .before .before .before .before .before .before in
-    (slots-high _ (s .pre .0), omega (arith, s .pre .1, entries-end (s .args .shape) (s .args .replica)))
+    (slots-high _ (s .pre .0), s .pre .1)
 
 log-length-requires : tie.Need-log-length-requires
 log-length-requires c κs = slots-high _ (c .before .before .before .before .before .before .before .before .before .before .before .pre .0)
@@ -83,7 +83,7 @@ returns-2 c =
     let s = c .before .before .before .before .before .before .before .before .before .before .before .before .before .before .before .args in
     let judged = front-judged (s .shape) (s .replica) (s .image .now) (c .before .before .before .before .before .before .before .before .before .before .before .before .before .header-size .ensures) (c .before .before .before .before .before .before .before .before .before .before .before .judge-header .ensures) in
     let proper = c .before .before .before .before .before .before .before .before .before .first .given .1 in
-    let scanned = scanned-from (s .shape) (s .replica) (s .image .now) (c .before .before .before .before .before .before .before .before .before .first .given .0 .0) (omega arith) (c .before .before .before .before .before .before .before .scan .ensures (s .replica)) in
+    let scanned = scanned-from (s .shape) (s .replica) (s .image .now) (c .before .before .before .before .before .before .before .before .before .first .given .0 .0) (omega arith) (c .before .before .before .before .before .before .before .scan .ensures) in
     let used = c .before .before .before .log-length .ensures in
     (view-scanned (s .shape) (s .replica) (s .image .now) judged proper scanned used (c .scan-refusal .ensures), λ e. seen-from _ _ (c .before .before .before .before .before .before .before .before .before .first .given .0 .0) (omega arith) (view-seen (s .shape) (s .replica) (s .image .now) judged proper scanned used))
 

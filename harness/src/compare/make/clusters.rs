@@ -3,7 +3,6 @@
 use super::{old_bytes, Call, Guarded, Outcome, Rng, Side};
 use crate::compare::Answer;
 use crate::guarded::GuardedNumber;
-use crate::model::Shape;
 use crate::proved::clusters::ReplicaRow;
 
 pub fn make(call: &Call, side: &Side, rng: &mut Rng) -> Option<Outcome> {
@@ -27,9 +26,7 @@ fn old_rows(rng: &mut Rng, length: usize) -> Guarded<ReplicaRow> {
 
 fn plan(call: &Call, side: &Side, rng: &mut Rng) -> Option<Outcome> {
     let &Call::Plan {
-        n,
-        m,
-        edition,
+        shape,
         leader,
         present,
         slots,
@@ -45,7 +42,7 @@ fn plan(call: &Call, side: &Side, rng: &mut Rng) -> Option<Outcome> {
     let (mut status, mut number) = (GuardedNumber::drawn(rng), GuardedNumber::drawn(rng));
     let answer = (side.plan)(
         cluster.part(),
-        Shape { n, m, edition },
+        shape,
         leader,
         present,
         plan.part_mut(),
@@ -64,9 +61,7 @@ fn plan(call: &Call, side: &Side, rng: &mut Rng) -> Option<Outcome> {
 
 fn step(call: &Call, side: &Side, rng: &mut Rng) -> Option<Outcome> {
     let &Call::Step {
-        n,
-        m,
-        edition,
+        shape,
         leader,
         present,
         ref cluster,
@@ -79,7 +74,7 @@ fn step(call: &Call, side: &Side, rng: &mut Rng) -> Option<Outcome> {
     let (mut slot, mut kind) = (GuardedNumber::drawn(rng), GuardedNumber::drawn(rng));
     let answer = (side.step)(
         cluster.part_mut(),
-        Shape { n, m, edition },
+        shape,
         leader,
         present,
         status.number_mut(),
@@ -98,9 +93,7 @@ fn step(call: &Call, side: &Side, rng: &mut Rng) -> Option<Outcome> {
 
 fn run(call: &Call, side: &Side, rng: &mut Rng) -> Option<Outcome> {
     let &Call::Run {
-        n,
-        m,
-        edition,
+        shape,
         leader,
         present,
         budget,
@@ -114,7 +107,7 @@ fn run(call: &Call, side: &Side, rng: &mut Rng) -> Option<Outcome> {
     let mut slot = GuardedNumber::drawn(rng);
     let answer = (side.run)(
         cluster.part_mut(),
-        Shape { n, m, edition },
+        shape,
         leader,
         present,
         budget,

@@ -3,7 +3,6 @@
 use super::{old_bytes, Call, Guarded, Outcome, Rng, Side};
 use crate::compare::Answer;
 use crate::guarded::GuardedNumber;
-use crate::model::Shape;
 use crate::proved::Written;
 
 pub fn make(call: &Call, side: &Side, rng: &mut Rng) -> Option<Outcome> {
@@ -24,22 +23,18 @@ pub fn make(call: &Call, side: &Side, rng: &mut Rng) -> Option<Outcome> {
         }
         Call::WriteHeader {
             length,
-            n,
-            m,
-            edition,
+            shape,
             replica,
             first,
         } => write("header", length, rng, |header| {
-            (side.write_header)(header, Shape { n, m, edition }, replica, first)
+            (side.write_header)(header, shape, replica, first)
         }),
         Call::JudgeHeader {
             ref header,
-            n,
-            m,
-            edition,
+            shape,
             replica,
         } => {
-            let (shape, mut first) = (Shape { n, m, edition }, GuardedNumber::drawn(rng));
+            let mut first = GuardedNumber::drawn(rng);
             judge("header", header, rng, |header| {
                 let first = first.number_mut();
                 Answer::Header((side.judge_header)(header, shape, replica, first))

@@ -31,7 +31,7 @@ returns-2 : tie.Need-returns-2
 returns-2 c =
     let d = c .before .before .before .before .before in
     let e = d .append-entry .ensures in
-    append-refused _ _ _ _ (e .1) _ _ (ap appendNumbers (sym (c .before .refusal .given .1)) ∙ e .0)
+    append-refused _ _ _ _ (e .1) _ _ (ap appendNumbers (sym (c .before .refusal .given .1)) ∙ e .0) (omega arith)
 
 pub rope-append-spec : {M : Type 1} → statement M
 rope-append-spec =

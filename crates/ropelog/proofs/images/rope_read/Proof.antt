@@ -25,7 +25,7 @@ returns : tie.Need-returns
 returns c =
     let d = c .before .before .before .before .before .before .before in
     let e = d .read-image .ensures in
-    read-done _ _ _ _ _ _ _ _ _ (e .1) (e .2) _ _ _ _ (ap readNumbers (sym (c .before .length .given .1)) ∙ e .0) (omega arith) (omega arith)
+    read-done _ _ _ _ _ _ (e .1) _ _ _ _ _ (e .2) _ _ (ap readNumbers (sym (c .before .length .given .1)) ∙ e .0) (omega arith) (omega arith)
 
 same-length-3 : tie.Need-same-length-3
 same-length-3 c = search needs
@@ -37,7 +37,7 @@ returns-2 : tie.Need-returns-2
 returns-2 c =
     let d = c .before .before .before .before .before .before .before in
     let e = d .read-image .ensures in
-    read-refused _ _ _ _ _ _ _ _ _ (e .1) (e .2) _ _ _ (ap readNumbers (sym (c .before .refusal .given .1)) ∙ e .0) (omega arith) (omega arith)
+    read-refused _ _ _ _ _ _ (e .1) _ _ _ _ _ (e .2) _ (ap readNumbers (sym (c .before .refusal .given .1)) ∙ e .0) (omega arith) (omega arith)
 
 pub rope-read-spec : {M : Type 1} → statement M
 rope-read-spec =

@@ -5,7 +5,7 @@ use mathlib.Core.List.{List}
 use lib.ListN.{getD}
 use borrow.Author.Tests.{not-true, not-false}
 use Rattle.image.specs.Refusal.{refuse}
-use Rattle.planner.specs.Setting.{has}
+use Rattle.search.specs.Sets.{has}
 use Rattle.planner.specs.Survey.{sameNumbers}
 use Rattle.planner.proofs.FirstLaws.{SameBelow, below-none, below-away, below-same, below-all, other-first}
 use native.Mathlib.Omega.{arith}

@@ -1,10 +1,12 @@
-use Prim.Native.Nat.{ℕ}
+use Prim.Native.Nat.{ℕ, _^_}
 use mathlib.Core.Path.{_≡_, sym, _∙_}
 use mathlib.Core.Bool.{Bool}
+use lib.Dec.{ltb}
+use Rattle.planner.specs.Sets.{isWithin}
 use borrow.Author.Tests.{not-true, not-false}
 use Rattle.image.specs.View.{isEdition}
 use Rattle.image.proofs.CallLaws.{slots-few, slots-many, is-slots, size-high}
-use Rattle.planner.proofs.ShapeLaws.{shape-slots, shape-size, shape-edition, shape-bytes, shape-set, shape-none, cluster-fits}
+use Rattle.planner.proofs.ShapeLaws.{shape-slots, shape-size, shape-edition, shape-bytes, shape-set, shape-witnesses, shape-none, cluster-fits}
 use native.Mathlib.Omega.{arith}
 use borrow.Author.Needs.{needs}
 use Rattle.survey.proofs.cluster.shape_refusal.Statement.{statement}
@@ -13,6 +15,11 @@ use Rattle.survey.proofs.cluster.shape_refusal.Tie as tie
 -- a test of an edition that is this one
 tested : {r t : Bool} {x : ℕ} (e : ℕ) → r ≡ isEdition x → x ≡ e → r ≡ t → isEdition e ≡ t
 tested e q s t = rw s at (sym q ∙ t)
+
+-- a test of a set and of n that are these
+bounded : {r t : Bool} {x y : ℕ} (set n : ℕ) → r ≡ isWithin x y → x ≡ set → y ≡ n → r ≡ t → ltb set (2 ^ n) ≡ t
+unfolding isWithin
+bounded set n q s z t = rw (s, z) at (sym q ∙ t)
 
 returns : tie.Need-returns
 returns c = shape-slots _ _ _ (slots-few _ (c .if1 .taken))
@@ -46,27 +53,41 @@ returns-5 c =
     let d = e .before .before in
     shape-bytes _ _ _ (is-slots _ (d .before .before .before .before .if1 .left) (d .before .before .if2 .left)) (sym (d .before .is-size .ensures) ∙ not-false _ (d .if3 .left)) (tested _ (e .before .is-edition .ensures) (omega arith) (not-false _ (e .if4 .left))) (c .before .image-at .ensures) (c .if5 .taken)
 
-cast-if6 : tie.Need-cast-if6
-cast-if6 c =
-    let d = c .before .before .before .before .before in
-    omega (arith, size-high (d .before .before .before .before .before .before .args .shape .n) (sym (d .before .is-size .ensures) ∙ not-false _ (d .if3 .left)))
-
-shr-if6 : tie.Need-shr-if6
-shr-if6 c =
-    let d = c .before .before .before .before .before in
+is-within-requires : tie.Need-is-within-requires
+is-within-requires c κs =
+    let d = c .before .before .before .before in
     omega (arith, size-high (d .before .before .before .before .before .before .args .shape .n) (sym (d .before .is-size .ensures) ∙ not-false _ (d .if3 .left)))
 
 returns-6 : tie.Need-returns-6
 returns-6 c =
-    let e = c .before .before .before .before in
+    let x = c .before .before in
+    let e = x .before .before in
     let d = e .before .before in
-    shape-set _ _ _ (is-slots _ (d .before .before .before .before .if1 .left) (d .before .before .if2 .left)) (sym (d .before .is-size .ensures) ∙ not-false _ (d .if3 .left)) (tested _ (e .before .is-edition .ensures) (omega arith) (not-false _ (e .if4 .left))) (c .before .before .before .image-at .ensures) (c .before .before .if5 .left) (λ z. omega arith)
+    let a = d .before .before .before .before .before .before .args in
+    shape-set _ _ _ (is-slots _ (d .before .before .before .before .if1 .left) (d .before .before .if2 .left)) (sym (d .before .is-size .ensures) ∙ not-false _ (d .if3 .left)) (tested _ (e .before .is-edition .ensures) (omega arith) (not-false _ (e .if4 .left))) (x .before .image-at .ensures) (x .if5 .left) (bounded (a .present) (a .shape .n) (c .before .is-within .ensures) (omega arith) (omega arith) (not-true _ (c .if6 .taken)))
+
+is-within-requires-2 : tie.Need-is-within-requires-2
+is-within-requires-2 c κs =
+    let d = c .before .before .before .before .before .before in
+    omega (arith, size-high (d .before .before .before .before .before .before .args .shape .n) (sym (d .before .is-size .ensures) ∙ not-false _ (d .if3 .left)))
 
 returns-7 : tie.Need-returns-7
 returns-7 c =
-    let e = c .before .before .before .before in
+    let y = c .before .before in
+    let x = y .before .before in
+    let e = x .before .before in
     let d = e .before .before in
-    shape-none _ _ _ (is-slots _ (d .before .before .before .before .if1 .left) (d .before .before .if2 .left)) (sym (d .before .is-size .ensures) ∙ not-false _ (d .if3 .left)) (tested _ (e .before .is-edition .ensures) (omega arith) (not-false _ (e .if4 .left))) (c .before .before .before .image-at .ensures) (c .before .before .if5 .left) (omega arith)
+    let a = d .before .before .before .before .before .before .args in
+    shape-witnesses _ _ _ (is-slots _ (d .before .before .before .before .if1 .left) (d .before .before .if2 .left)) (sym (d .before .is-size .ensures) ∙ not-false _ (d .if3 .left)) (tested _ (e .before .is-edition .ensures) (omega arith) (not-false _ (e .if4 .left))) (x .before .image-at .ensures) (x .if5 .left) (bounded (a .present) (a .shape .n) (y .before .is-within .ensures) (omega arith) (omega arith) (not-false _ (y .if6 .left))) (bounded (a .shape .witnesses) (a .shape .n) (c .before .is-within2 .ensures) (omega arith) (omega arith) (not-true _ (c .if7 .taken)))
+
+returns-8 : tie.Need-returns-8
+returns-8 c =
+    let y = c .before .before in
+    let x = y .before .before in
+    let e = x .before .before in
+    let d = e .before .before in
+    let a = d .before .before .before .before .before .before .args in
+    shape-none _ _ _ (is-slots _ (d .before .before .before .before .if1 .left) (d .before .before .if2 .left)) (sym (d .before .is-size .ensures) ∙ not-false _ (d .if3 .left)) (tested _ (e .before .is-edition .ensures) (omega arith) (not-false _ (e .if4 .left))) (x .before .image-at .ensures) (x .if5 .left) (bounded (a .present) (a .shape .n) (y .before .is-within .ensures) (omega arith) (omega arith) (not-false _ (y .if6 .left))) (bounded (a .shape .witnesses) (a .shape .n) (c .before .is-within2 .ensures) (omega arith) (omega arith) (not-false _ (c .if7 .left)))
 
 pub shape-refusal-spec : {M : Type 1} → statement M
 shape-refusal-spec =
@@ -80,7 +101,8 @@ shape-refusal-spec =
     returns-4
     image-at-requires
     returns-5
-    cast-if6
-    shr-if6
+    is-within-requires
     returns-6
-    returns-7)
+    is-within-requires-2
+    returns-7
+    returns-8)

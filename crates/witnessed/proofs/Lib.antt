@@ -1,0 +1,2 @@
+-- What is computed.
+pub mod ComputedLaws
