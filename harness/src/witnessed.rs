@@ -5,13 +5,25 @@ use crate::model::{image_offset, Shape, Survey};
 
 /// Whether a slot that waits would be cut if the witnesses with its record had said don't-have.
 pub fn kept_by_witnesses(survey: &Survey, slot: usize) -> bool {
-    let n = survey.shape.n;
-    let lacks = |&replica: &usize| match reply(survey, replica, slot) {
+    is_cut_if(survey, |replica| match reply(survey, replica, slot) {
         Some(Reply::DontHave) => true,
         Some(Reply::HaveFaulty) => survey.shape.is_witness(replica),
         Some(Reply::Have) | None => false,
-    };
-    let may_hold_it = n - (1..=n).filter(lacks).count();
+    })
+}
+
+/// Whether a slot that is cut would wait if no witness had said don't-have.
+pub fn cut_by_witnesses(survey: &Survey, slot: usize) -> bool {
+    !is_cut_if(survey, |replica| {
+        let lacks = reply(survey, replica, slot) == Some(Reply::DontHave);
+        lacks && !survey.shape.is_witness(replica)
+    })
+}
+
+/// Whether those that lack a slot of which there is no copy are enough to cut it.
+fn is_cut_if(survey: &Survey, lacks: impl Fn(usize) -> bool) -> bool {
+    let n = survey.shape.n;
+    let may_hold_it = (1..=n).filter(|&replica| !lacks(replica)).count();
     2 * may_hold_it <= n
 }
 

@@ -6,7 +6,7 @@
 
 use harness::code::Code;
 use harness::generate::{misdirected, Case, Cluster, Committed};
-use harness::model::{apply, StoreKind};
+use harness::model::{apply, Shape, StoreKind};
 use harness::on_both_sides;
 use harness::property::claims::Start;
 use harness::property::walk::walk;
@@ -27,6 +27,9 @@ on_both_sides! {
     an_epoch_is_not_used_again_after_a_truncation,
     only_recovery_changes_the_cluster_once_it_has_begun,
     a_damaged_header_is_a_refused_one,
+    a_damaged_record_of_a_witness_is_not_blank,
+    a_damaged_record_of_a_witness_is_not_good,
+    logs_agreed_with_a_witness_by_their_epochs,
 }
 
 /// Three replicas of one slot: all present, replica 1 leads, epoch 1 committed "kept".
@@ -230,5 +233,56 @@ fn a_damaged_header_is_a_refused_one(on: Code) {
         // Among others the leader is refused by 12 or 21.
         assert_eq!(harm_among(&cluster, 0b011), None);
         assert_eq!(harm_among(&cluster, 0b001).is_some(), harmed);
+    }
+}
+
+/// Replicas 1 and 3, a card and a witness, had stored it; the leader's entry is damaged, and card 2 never
+/// had it.
+fn witnessed() -> Cluster {
+    let mut cluster = Cluster::of_shape(Shape::edition_1(3, 1).with_witnesses(0b100));
+    for replica in [1, 3] {
+        cluster.put(replica, 1, 1, b"kept");
+    }
+    cluster.entry_mut(1, 1).fill(b'#');
+    cluster
+}
+
+/// Its record alone keeps it from being cut. Damaged as supposed, the witness is away.
+fn a_damaged_record_of_a_witness_is_not_blank(on: Code) {
+    let mut cluster = witnessed();
+    assert_eq!(harm(on, &cluster, 0b101), None);
+    cluster.record_mut(3, 1).fill(b'#');
+    assert_eq!(harm(on, &cluster, 0b101), None);
+    let blank = on.blank_record();
+    cluster.record_mut(3, 1).copy_from_slice(&blank);
+    assert!(harm(on, &cluster, 0b101).is_some());
+}
+
+fn a_damaged_record_of_a_witness_is_not_good(on: Code) {
+    let mut cluster = witnessed();
+    cluster.put_record(3, 1, 2);
+    assert!(harm(on, &cluster, 0b101).is_some());
+}
+
+/// Two slots of which the witness has the second one's epoch, and the first one's or another.
+fn logs_agreed_with_a_witness_by_their_epochs(on: Code) {
+    let shape = Shape::edition_1(3, 2).with_witnesses(0b100);
+    for (epoch, harmed) in [(2, false), (1, true)] {
+        let mut cluster = Cluster::of_shape(shape);
+        for replica in [1, 3] {
+            cluster.put(replica, 1, 2, b"before");
+            cluster.put(replica, 2, 3, b"kept");
+        }
+        cluster.put_record(3, 1, epoch);
+        let committed = [Committed {
+            slot: 2,
+            index: 2,
+            epoch: 3,
+            payload: b"kept".to_vec(),
+            holders: 0b101,
+            elsewhere: 0,
+        }];
+        let found = harm_of(on, &case(&cluster), &committed);
+        assert_eq!(found.is_some(), harmed, "{found:?}");
     }
 }

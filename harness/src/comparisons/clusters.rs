@@ -12,7 +12,7 @@ use crate::model::{
     Survey, MAX_REPLICAS, MAX_SLOTS,
 };
 use crate::tally::{each_case, Tally};
-use crate::witnessed::{is_wrong_set, kept_by_witnesses};
+use crate::witnessed::{cut_by_witnesses, is_wrong_set, kept_by_witnesses};
 
 /// Plans by both, and counts how it went.
 pub fn compare_plan(rng: &mut Rng, call: &Call, tally: &mut Tally) {
@@ -53,8 +53,8 @@ fn survey_of(call: &Call) -> Survey {
     survey(cluster, shape, leader, present).expect("it was planned")
 }
 
-/// How many witnesses there are; for each n, whether one with the record kept a slot from being cut; and
-/// what became of those that are present: 0 away, 1 within reach.
+/// How many witnesses there are; which of them are away (0) and which within reach (1); and for each n,
+/// whether those with the record kept a slot from being cut, and whether those without it had one cut.
 fn count_witnesses(survey: &Survey, outcome: &Outcome, tally: &mut Tally) {
     let shape = survey.shape;
     tally.count("witnesses", shape.witnesses.count_ones() as usize);
@@ -65,6 +65,10 @@ fn count_witnesses(survey: &Survey, outcome: &Outcome, tally: &mut Tally) {
     let mut waiting = (1..=shape.m).filter(|slot| plan[slot - 1] == 3);
     if waiting.any(|slot| kept_by_witnesses(survey, slot)) {
         tally.count("kept by witnesses of n", shape.n);
+    }
+    let mut cut = (1..=shape.m).filter(|slot| plan[slot - 1] == 4);
+    if cut.any(|slot| cut_by_witnesses(survey, slot)) {
+        tally.count("cut by witnesses of n", shape.n);
     }
 }
 
@@ -189,6 +193,7 @@ pub fn plans(seed: u64, clusters: u64) -> Tally {
     tally.assert_each("witness", &[0, 1], some);
     tally.assert_each("witness leads", &[0, 1], some);
     tally.assert_each("kept by witnesses of n", &[3, 4, 5, 6, 7], some);
+    tally.assert_each("cut by witnesses of n", &[3, 4, 5, 6, 7], some);
     tally
 }
 
