@@ -13,7 +13,7 @@ use Rattle.record.proofs.EntryLaws.{intact-for}
 use Rattle.image.specs.Image.{index, entryAt}
 use Rattle.image.specs.View.{viewOf, seenAs, condition, conditionAt, epochOf, epochAt, isBlank, isLost}
 use Rattle.image.specs.Cluster.{Cluster, imagePart, firstAt, decode, decodeWith}
-use Rattle.image.proofs.ViewLaws.{readable-sound, used-below}
+use Rattle.image.proofs.ViewLaws.{length-le, readable-sound, used-below}
 use Rattle.image.proofs.ClusterLaws.{record-means, entry-means, none-means, entry-part, with-header, with-same, entry-with, first-at}
 use Rattle.planner.specs.Setting.{Setting, settingOf, witness, viewsOf}
 use Rattle.planner.specs.Plan.{viewsIn}
@@ -50,15 +50,23 @@ used-good (good f) x e n u l q = ap good q
 used-good blank x e n u l q = absurd (true≢false u)
 used-good (bad z) x e n u l q = absurd (true≢false (rw n at l))
 
+used-record : (S : Setting) (b : Bytes) (c k e : ℕ) → witness S c ≡ true → viewsIn S b c .readable ≡ true → k < viewsIn S b c .length → viewsIn S b c .epoch k ≡ e
+    → (k < S .shape .m) × (decode (S .shape) b c .records k ≡ good e)
+unfolding viewsIn viewsOf seenAs viewOf epochAt conditionAt
+used-record S b c k e w ok within q =
+    let km : k < S .shape .m = omega (arith, within, length-le (S .shape .m) (decode (S .shape) b c)) in (
+      km,
+      used-good (decode (S .shape) b c .records k) (decode (S .shape) b c .entries k) e (none-means (S .shape) b c k w)
+          (used-below (S .shape .m) (decode (S .shape) b c) k within)
+          (readable-sound (S .present c) (S .shape .m) (decode (S .shape) b c) ok .kept k km)
+          q,
+    )
+
 standing-record : (S : Setting) (b : Bytes) (c k e : ℕ) (p : Bytes) → k < S .shape .m → StandsIn S (decode (S .shape) b) c k e p → (w : Bool) → witness S c ≡ w
     → decode (S .shape) b c .records k ≡ good e
-unfolding viewsOf seenAs viewOf epochAt conditionAt
+unfolding viewsIn
 standing-record S b c k e p km s false q = s .whole q .rec
-standing-record S b c k e p km s true q =
-    used-good (decode (S .shape) b c .records k) (decode (S .shape) b c .entries k) e (none-means (S .shape) b c k q)
-    (used-below (S .shape .m) (decode (S .shape) b c) k (s .used .within))
-    (readable-sound (S .present c) (S .shape .m) (decode (S .shape) b c) (s .ok) .kept k km)
-    (s .used .epoch)
+standing-record S b c k e p km s true q = used-record S b c k e q (s .ok) (s .used .within) (s .used .epoch) .1
 
 -- what an entry's bytes mean in the cluster, by the index of the slot
 module _ (S : Setting) (b : Bytes) (c k : ℕ) (km : k < S .shape .m) (I : ℕ) (at : index (firstAt (S .shape) b c) k ≡ I) where
@@ -77,6 +85,17 @@ module _ (S : Setting) (b : Bytes) (c k : ℕ) (km : k < S .shape .m) (I : ℕ) 
     rec = good-for I (recordIn S b c k) e (sym record-in ∙ standing-record S b c k e p km w (witness S c) refl) .bytes;
     ent = λ card. intact-for I (entryIn S b c k) e p (sym (entry-in card) ∙ w .whole card .ent) .bytes;
   }
+
+-- where a witness has an index used, its record stands
+witness-stands : (S : Setting) (b : Bytes) (c I e : ℕ) (p : Bytes) → witness S c ≡ true → viewsIn S b c .readable ≡ true → UsedUnder S b c I e → Stands S b c I e p
+witness-stands S b c I e p w ok u =
+    let y = used-record S b c (u .slot) e w ok (u .within) (u .epoch) in
+    record {
+      slot = u .slot;
+      at = u .at;
+      rec = good-for I (recordIn S b c (u .slot)) e (sym (record-in S b c (u .slot) (y .0) I (u .at)) ∙ y .1) .bytes;
+      ent = λ card. absurd (true≢false (sym w ∙ card));
+    }
 
 -- an image that is the same has the same entries
 entry-same : (S : Setting) (a b : Bytes) (c k : ℕ) → witness S c ≡ false → k < S .shape .m → imagePart (S .shape) a c ≡ imagePart (S .shape) b c → entryIn S a c k ≡ entryIn S b c k
@@ -136,6 +155,7 @@ module _ (N : Numbers) (b : Bytes) (h : refusalIn N b ≡ 0 → ⊥) (H : ℕ �
       let z = planning-refused N b h in
       record {
         used = held-there;
+        witnessed = λ c cn w h rd. witness-stands (named N) b c I e p w (readable-seen N b c rd) (held-there c cn h rd);
         entry = λ c k q cn card y at x. refl;
         heldPayload = payload-there (named N) b H I e p s;
         usedPayload = λ c q cn card rd u x.
@@ -250,12 +270,19 @@ module _ (N : Numbers) (b₀ b : Bytes) (x : refusalIn N b₀ ≡ 0) (v : After 
   rested (isReady y l a) z =
       stood l 0 (ready-plan N b₀ x l (sym (v .facts .answers) ∙ a)) (says-recovered (nextIn S b) 0 (sym (ready-step N b y l a) ∙ z))
 
+  used-still : (c : ℕ) → c < N .shape .n → held I e (H c) ≡ true → readable N b₀ c ≡ true → UsedUnder S b c I e
+  unfolding viewsIn settingOf
+  used-still c cn h rd =
+      let u = kept-used S F₀ H I e p K low g (r .reach) c cn (seen c rd) h in
+      record { slot = K; at = now-at c cn (seen c rd); within = u .within; epoch = u .epoch }
+
   part-b-accepted : PartB N b₀ H I e p b
   unfolding viewsIn settingOf stepsBytes
   part-b-accepted =
       let a = accepted N b₀ x in
       record {
-        used = λ c cn h rd. let u = kept-used S F₀ H I e p K low g (r .reach) c cn (seen c rd) h in record { slot = K; at = now-at c cn (seen c rd); within = u .within; epoch = u .epoch };
+        used = used-still;
+        witnessed = λ c cn w h rd. witness-stands S b c I e p w (v .facts .readables c ∙ seen c rd) (used-still c cn h rd);
         entry = kept;
         heldPayload = held-payload;
         usedPayload = λ c q cn card rd u y.

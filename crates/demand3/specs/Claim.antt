@@ -104,6 +104,8 @@ pub record PartB (N : Numbers) (b₀ : Bytes) (H : ℕ → History) (i e : ℕ) 
   -- a readable present replica whose log held it keeps it used under e; each card whose log held it keeps the entry's bytes if they were
   -- intact with e. (The others keep every byte: `away`. Where a header is damaged no index can be read)
   pub used : (c : ℕ) → c < N .shape .n → held i e (H c) ≡ true → readable N b₀ c ≡ true → UsedUnder (named N) b c i e
+  -- on such a witness the record is good under e all along (02, Seven)
+  pub witnessed : (c : ℕ) → c < N .shape .n → witness (named N) c ≡ true → held i e (H c) ≡ true → readable N b₀ c ≡ true → Stands (named N) b c i e p
   pub entry : (c k : ℕ) (q : Bytes) → c < N .shape .n → witness (named N) c ≡ false → held i e (H c) ≡ true → index (H c .first) k ≡ i
       → readEntry i (entryIn (named N) b₀ c k) ≡ intact e q → entryIn (named N) b c k ≡ entryIn (named N) b₀ c k
   -- any entry there intact with e has the payload: where a card's log held it, and where a card has it used under e
