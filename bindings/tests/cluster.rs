@@ -2,10 +2,10 @@
 
 mod common;
 
-use common::{epoch, Cluster};
+use common::{assert_cluster_refused, epoch, Cluster};
 use ropelog::{
-    payload, plan, read, run, step, Geometry, Plan, PlanAction, PlanAnswer, Refusal, Replica,
-    ReplicaSet, RunAnswer, StepAnswer, Store, StoreKind, Verdict,
+    payload, plan, read, run, step, Geometry, Plan, PlanAction, PlanAnswer, Refusal, ReplicaSet,
+    RunAnswer, StepAnswer, Store, StoreKind, Verdict,
 };
 
 /// Five replicas of four slots, led by 1. Replicas 1 to 4 have slots 1 and 2 in epoch 1; the leader
@@ -51,23 +51,6 @@ fn stored(cluster: &Cluster, replica: usize, slot: usize, kind: StoreKind) -> St
         slot,
         kind,
     })
-}
-
-/// Planner, step and run are refused so, and no byte changes.
-fn assert_refused(
-    cluster: &[u8],
-    geometry: Geometry,
-    leader: Replica,
-    present: ReplicaSet,
-    refusal: Refusal,
-) {
-    assert_eq!(plan(cluster, geometry, leader, present), Err(refusal));
-    let mut lent = cluster.to_vec();
-    let answer = step(&mut lent, geometry, leader, present);
-    assert_eq!(answer, Err(refusal));
-    let answer = run(&mut lent, geometry, leader, present, 9);
-    assert_eq!(answer, Err(refusal));
-    assert_eq!(lent, cluster);
 }
 
 /// The leader alone has slot 1, and its entry is spoilt: so many don't-haves of n cut it, fewer wait.
@@ -324,16 +307,16 @@ fn refused_first_indexes() {
     cluster.format_from(4, 8);
     let (geometry, leader) = (cluster.geometry, cluster.replica(1));
     let (fourth, all) = (cluster.replica(4), geometry.all_present());
-    assert_refused(&cluster.bytes, geometry, leader, all, Refusal::FirstDiffers);
-    assert_refused(&cluster.bytes, geometry, fourth, all, Refusal::FirstDiffers);
+    assert_cluster_refused(&cluster.bytes, geometry, leader, all, Refusal::FirstDiffers);
+    assert_cluster_refused(&cluster.bytes, geometry, fourth, all, Refusal::FirstDiffers);
     let without = all.without(leader);
-    assert_refused(&cluster.bytes, geometry, leader, without, Refusal::Leader);
+    assert_cluster_refused(&cluster.bytes, geometry, leader, without, Refusal::Leader);
     let answer = planned(&cluster, all.without(fourth)).answer();
     assert_eq!(answer, PlanAnswer::Ready { length: 1 });
     cluster.spoil_header(4);
     assert_eq!(planned(&cluster, all).answer(), answer);
     cluster.spoil_header(1);
-    assert_refused(&cluster.bytes, geometry, leader, all, Refusal::Leader);
+    assert_cluster_refused(&cluster.bytes, geometry, leader, all, Refusal::Leader);
 }
 
 #[test]
@@ -344,11 +327,11 @@ fn refused_buffers() {
     let mut longer = cluster.bytes.clone();
     longer.push(b' ');
     for bytes in [&[][..], &cluster.bytes[1..], &longer] {
-        assert_refused(bytes, geometry, leader, all, Refusal::BufferLength);
+        assert_cluster_refused(bytes, geometry, leader, all, Refusal::BufferLength);
     }
     for other in [Geometry::new(5, 3), Geometry::edition_2(5, 4)] {
         let other = other.unwrap();
-        assert_refused(&cluster.bytes, other, leader, all, Refusal::BufferLength);
+        assert_cluster_refused(&cluster.bytes, other, leader, all, Refusal::BufferLength);
     }
 }
 
@@ -359,23 +342,23 @@ fn refused_sets_and_leaders() {
     let all = geometry.all_present();
     let seven = Geometry::new(7, 4).unwrap();
     let beyond = seven.replica(7).unwrap();
-    assert_refused(
+    assert_cluster_refused(
         &cluster.bytes,
         geometry,
         leader,
         seven.all_present(),
         Refusal::Present,
     );
-    assert_refused(
+    assert_cluster_refused(
         &cluster.bytes,
         geometry,
         beyond,
         all.with(beyond),
         Refusal::Present,
     );
-    assert_refused(&cluster.bytes, geometry, beyond, all, Refusal::Leader);
+    assert_cluster_refused(&cluster.bytes, geometry, beyond, all, Refusal::Leader);
     for present in [ReplicaSet::EMPTY, all.without(leader)] {
-        assert_refused(&cluster.bytes, geometry, leader, present, Refusal::Leader);
+        assert_cluster_refused(&cluster.bytes, geometry, leader, present, Refusal::Leader);
     }
 }
 
@@ -393,7 +376,7 @@ fn refused_images_of_the_leader() {
         let mut cluster = five();
         spoil(&mut cluster);
         let (geometry, leader) = (cluster.geometry, cluster.replica(1));
-        assert_refused(
+        assert_cluster_refused(
             &cluster.bytes,
             geometry,
             leader,

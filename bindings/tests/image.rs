@@ -2,26 +2,12 @@
 
 mod common;
 
-use common::{epoch, Cluster};
+use common::{assert_no_card, epoch, Cluster};
 use ropelog::pieces::Header;
 use ropelog::{
     append, format, format_from, has_payload, payload, pieces, read, Epoch, Geometry, Refusal,
-    Replica, Verdict,
+    Verdict,
 };
-
-/// Every call about an image is refused so, and no byte changes. Formatting looks at the numbers
-/// and the length alone, and is not among them.
-fn assert_refused(image: &[u8], geometry: Geometry, replica: Replica, refusal: Refusal) {
-    assert_eq!(read(image, geometry, replica), Err(refusal));
-    for slot in 0..4 {
-        assert_eq!(has_payload(image, geometry, replica, slot), Err(refusal));
-        assert_eq!(payload(image, geometry, replica, slot), b"");
-    }
-    let mut lent = image.to_vec();
-    let late = append(&mut lent, geometry, replica, epoch(u32::MAX), b"late");
-    assert_eq!(late, Err(refusal));
-    assert_eq!(lent, image);
-}
 
 fn verdicts(cluster: &Cluster, number: usize) -> Vec<Verdict> {
     let replica = cluster.replica(number);
@@ -81,7 +67,7 @@ fn images_of_the_other_edition() {
         (Cluster::fresh(3, 2), Cluster::fresh_from(3, 2, 1)),
         (Cluster::fresh_from(3, 2, 1), Cluster::fresh(3, 2)),
     ] {
-        assert_refused(
+        assert_no_card(
             other.image(1),
             mine.geometry,
             mine.replica(1),
@@ -105,7 +91,7 @@ fn headers_of_another_first_index() {
     ] {
         let header = &mut cluster.image_mut(1)[..geometry.header_len()];
         pieces::write_header(header, geometry.shape(), 1, first).unwrap();
-        assert_refused(cluster.image(1), geometry, replica, refusal);
+        assert_no_card(cluster.image(1), geometry, replica, refusal);
     }
 }
 
@@ -262,7 +248,7 @@ fn images_of_the_wrong_length_or_replica() {
     let replica = cluster.replica(1);
     let image = cluster.image(1);
     for length in [0, image.len() - 1] {
-        assert_refused(
+        assert_no_card(
             &image[..length],
             cluster.geometry,
             replica,
@@ -270,9 +256,9 @@ fn images_of_the_wrong_length_or_replica() {
         );
     }
     let other = Geometry::new(5, 2).unwrap().replica(4).unwrap();
-    assert_refused(image, cluster.geometry, other, Refusal::ReplicaCount);
+    assert_no_card(image, cluster.geometry, other, Refusal::ReplicaCount);
     let second = cluster.replica(2);
-    assert_refused(image, cluster.geometry, second, Refusal::Header);
+    assert_no_card(image, cluster.geometry, second, Refusal::Header);
 }
 
 #[test]
@@ -287,7 +273,7 @@ fn refused_images() {
             bytes: good.bytes.clone(),
         };
         spoil(&mut spoilt);
-        assert_refused(spoilt.image(1), geometry, replica, refusal);
+        assert_no_card(spoilt.image(1), geometry, replica, refusal);
     };
     refused(&|cluster| cluster.spoil_header(1), Refusal::Header);
     refused(

@@ -2,11 +2,11 @@
 
 mod common;
 
-use common::{epoch, set_of, Cluster};
+use common::{assert_cluster_refused, assert_no_card, epoch, set_of, Cluster};
 use ropelog::{
-    append, format, format_from, has_payload, payload, pieces, plan, read, run, step,
-    witness_append, witness_read, Epoch, Geometry, Plan, PlanAction, PlanAnswer, Refusal, Replica,
-    ReplicaRow, ReplicaSet, RunAnswer, StepAnswer, Store, StoreKind, Verdict,
+    format, format_from, payload, pieces, plan, read, run, step, witness_append, witness_read,
+    Epoch, Geometry, Plan, PlanAction, PlanAnswer, Refusal, Replica, ReplicaRow, ReplicaSet,
+    RunAnswer, StepAnswer, Store, StoreKind, Verdict,
 };
 
 /// Both calls for witnesses are refused so, and no byte changes.
@@ -14,19 +14,6 @@ fn assert_refused(image: &[u8], geometry: Geometry, replica: Replica, refusal: R
     assert_eq!(witness_read(image, geometry, replica), Err(refusal));
     let mut lent = image.to_vec();
     let late = witness_append(&mut lent, geometry, replica, epoch(u32::MAX));
-    assert_eq!(late, Err(refusal));
-    assert_eq!(lent, image);
-}
-
-/// Every call for cards is refused so, and no byte changes.
-fn assert_no_card(image: &[u8], geometry: Geometry, replica: Replica, refusal: Refusal) {
-    assert_eq!(read(image, geometry, replica), Err(refusal));
-    for slot in 0..4 {
-        assert_eq!(has_payload(image, geometry, replica, slot), Err(refusal));
-        assert_eq!(payload(image, geometry, replica, slot), b"");
-    }
-    let mut lent = image.to_vec();
-    let late = append(&mut lent, geometry, replica, epoch(u32::MAX), b"late");
     assert_eq!(late, Err(refusal));
     assert_eq!(lent, image);
 }
@@ -476,23 +463,6 @@ fn another_set_of_the_same_size() {
     let wrong = geometry.with_witnesses(cluster.set(&[1]));
     let refused = plan(&cluster.bytes, wrong, leader, all);
     assert_eq!(refused, Err(Refusal::Leader));
-}
-
-/// Planner, step and run are refused so, and no byte changes.
-fn assert_cluster_refused(
-    cluster: &[u8],
-    geometry: Geometry,
-    leader: Replica,
-    present: ReplicaSet,
-    refusal: Refusal,
-) {
-    assert_eq!(plan(cluster, geometry, leader, present), Err(refusal));
-    let mut lent = cluster.to_vec();
-    let answer = step(&mut lent, geometry, leader, present);
-    assert_eq!(answer, Err(refusal));
-    let answer = run(&mut lent, geometry, leader, present, 9);
-    assert_eq!(answer, Err(refusal));
-    assert_eq!(lent, cluster);
 }
 
 /// 12, its image readable or not.

@@ -1,7 +1,10 @@
 //! A cluster in memory, for the tests.
 #![allow(dead_code)]
 
-use ropelog::{append, format_from, witness_append, Epoch, Geometry, Replica, ReplicaSet};
+use ropelog::{
+    append, format_from, has_payload, payload, plan, read, run, step, witness_append, Epoch,
+    Geometry, Refusal, Replica, ReplicaSet,
+};
 
 pub struct Cluster {
     pub geometry: Geometry,
@@ -16,6 +19,37 @@ pub fn epoch(number: u32) -> Epoch {
 pub fn set_of(geometry: Geometry, numbers: &[usize]) -> ReplicaSet {
     let replicas = numbers.iter().map(|&number| geometry.replica(number));
     replicas.collect::<Result<_, _>>().unwrap()
+}
+
+/// Planner, step and run are refused so, and no byte changes.
+pub fn assert_cluster_refused(
+    cluster: &[u8],
+    geometry: Geometry,
+    leader: Replica,
+    present: ReplicaSet,
+    refusal: Refusal,
+) {
+    assert_eq!(plan(cluster, geometry, leader, present), Err(refusal));
+    let mut lent = cluster.to_vec();
+    let answer = step(&mut lent, geometry, leader, present);
+    assert_eq!(answer, Err(refusal));
+    let answer = run(&mut lent, geometry, leader, present, 9);
+    assert_eq!(answer, Err(refusal));
+    assert_eq!(lent, cluster);
+}
+
+/// Every call about a card is refused so, and no byte changes. Formatting looks at the numbers
+/// and the length alone, and is not among them.
+pub fn assert_no_card(image: &[u8], geometry: Geometry, replica: Replica, refusal: Refusal) {
+    assert_eq!(read(image, geometry, replica), Err(refusal));
+    for slot in 0..4 {
+        assert_eq!(has_payload(image, geometry, replica, slot), Err(refusal));
+        assert_eq!(payload(image, geometry, replica, slot), b"");
+    }
+    let mut lent = image.to_vec();
+    let late = append(&mut lent, geometry, replica, epoch(u32::MAX), b"late");
+    assert_eq!(late, Err(refusal));
+    assert_eq!(lent, image);
 }
 
 impl Cluster {
