@@ -20,7 +20,7 @@ use Rattle.image.specs.Witness.{recordRefusal}
 use Rattle.image.specs.AppendClaim.{AtLastEpoch}
 use Rattle.image.proofs.RefusalLaws.{refuse-on, refuse-off, refuse-zero, else-next, else-first, else-zero, else-zero-l, else-zero-r}
 use Rattle.image.proofs.CallLaws.{called-size}
-use Rattle.image.proofs.CardLaws.{card-readable}
+use Rattle.image.proofs.KindLaws.{kind-readable}
 use Rattle.image.proofs.ViewLaws.{Sound, sound-elim, length-le, used-below}
 use Rattle.image.proofs.DecodeLaws.{record-there, entry-there, none-there}
 
@@ -194,7 +194,7 @@ module _ (Z : Shape) (c : ℕ) (b : Bytes) (s : Sound (Z .m) (decodeImage Z c b)
 pub last-epoch-again : (Z : Shape) (c : ℕ) (b : Bytes) (size : ℕ) → cardRefusal Z c b ≡ 0 → 0 < logLength (Z .m) (decodeImage Z c b)
     → logLength (Z .m) (decodeImage Z c b) < Z .m → size ≤ 200 → AtLastEpoch Z c b size
 last-epoch-again Z c b size r h l z =
-    let s = readable-image Z c b (card-readable Z c b r) in
+    let s = readable-image Z c b (kind-readable _ Z c b r) in
     let p = last-positive Z c b s h in
     record {
       same = accepts-intro Z c b _ size (record { readable = r; positive = p; rising = omega arith; short = z; room = l });

@@ -23,7 +23,7 @@ use Rattle.image.specs.Read.{isWhole, hasPayload, payloadOf}
 use Rattle.image.specs.Append.{appendRefusal, stored, appended}
 use Rattle.image.specs.AppendClaim.{OneMore}
 use Rattle.image.proofs.RefusalLaws.{else-zero, else-zero-l}
-use Rattle.image.proofs.CardLaws.{card-card, card-readable, card-intro}
+use Rattle.image.proofs.KindLaws.{kind-own, kind-readable, kind-intro}
 use Rattle.image.proofs.ViewLaws.{Sound, sound-intro}
 use Rattle.image.proofs.DecodeLaws.{record-fits, entry-fits, first-is, entry-there, record-spliced, entry-spliced, entry-keeps-first}
 use Rattle.image.proofs.AddedLaws.{added, added-header, added-condition, added-epoch, added-entry, added-entry-other, added-condition-other, added-epoch-other, added-length, added-sound, added-verdict, added-verdict-last, added-verdict-other, added-verdict-next, unused-verdict}
@@ -91,7 +91,7 @@ unfolding readRefusal
 readable-still Z c b d l r s = else-zero (ap (callRefusal Z c) l ∙ else-zero-l _ _ r) (sound-intro (Z .m) (decodeImage Z c d) s)
 
 pub card-still : (Z : Shape) (c : ℕ) (b d : Bytes) → length d ≡ length b → cardRefusal Z c b ≡ 0 → Sound (Z .m) (decodeImage Z c d) → cardRefusal Z c d ≡ 0
-card-still Z c b d l r s = card-intro Z c d (card-card Z c b r) (readable-still Z c b d l (card-readable Z c b r) s)
+card-still Z c b d l r s = kind-intro _ Z c d (kind-own _ Z c b r) (readable-still Z c b d l (kind-readable _ Z c b r) s)
 
 -- b becomes d by an append that is accepted
 module _ (Z : Shape) (c : ℕ) (b : Bytes) (e : ℕ) (p : Bytes) (d : Bytes) where
@@ -121,7 +121,7 @@ module _ (Z : Shape) (c : ℕ) (b : Bytes) (e : ℕ) (p : Bytes) (d : Bytes) whe
           let w : ¬ (k ≡ len) = λ y. q (x ∙ ap suc y) in
           rw x
           (payload-there Z c d k r′ (rw x at (same-presence is s q ∙ h))
-          ∙ ap entryPayload (entry-bytes Z c b d k (card-card Z c b r) km (same-first is) (ap (λ (i : Image). i .entries k) is ∙ added-entry-other (Z .m) before len e p k w))
+          ∙ ap entryPayload (entry-bytes Z c b d k (kind-own _ Z c b r) km (same-first is) (ap (λ (i : Image). i .entries k) is ∙ added-entry-other (Z .m) before len e p k w))
           ∙ sym (payload-there Z c b k r (rw x at h)))
 
       go : (t : Bool) → hasPayload (Z .m) before s ≡ t → payloadOf Z c d s ≡ payloadOf Z c b s
@@ -130,16 +130,16 @@ module _ (Z : Shape) (c : ℕ) (b : Bytes) (e : ℕ) (p : Bytes) (d : Bytes) whe
 
   module _ (high : e ≤ 4294967295) (ok : Accepts Z c b e (length p)) (by : d ≡ stored Z (firstIn Z c b) b len e p) where
     card : isWitness Z c ≡ false
-    card = card-card Z c b (ok .readable)
+    card = kind-own _ Z c b (ok .readable)
 
     size : length b ≡ imageSize Z c
-    size = readable-size Z c b (card-readable Z c b (ok .readable))
+    size = readable-size Z c b (kind-readable _ Z c b (ok .readable))
 
     epoch : isEpoch e ≡ true
     epoch = is-epoch e (ok .positive) high
 
     sound : Sound (Z .m) before
-    sound = readable-image Z c b (card-readable Z c b (ok .readable))
+    sound = readable-image Z c b (kind-readable _ Z c b (ok .readable))
 
     as-long : length d ≡ length b
     as-long = ap length by ∙ length-stored Z c b size len card (ok .room) e epoch p (ok .short) refl ∙ sym size

@@ -24,7 +24,7 @@ use Rattle.image.proofs.ViewLaws.{Sound, length-le}
 use Rattle.image.proofs.VerdictLaws.{verdict-whole, verdict-unused}
 use Rattle.image.proofs.CallLaws.{formatted-first}
 use Rattle.image.proofs.FreshLaws.{fresh-first, fresh-length, fresh-fresh, fresh-readable}
-use Rattle.image.proofs.CardLaws.{card-readable, card-intro}
+use Rattle.image.proofs.KindLaws.{kind-readable, kind-intro}
 use Rattle.image.proofs.AcceptLaws.{Accepts, accepts-elim, readable-image}
 use Rattle.image.proofs.AppendLaws.{has-payload, no-slot, payload-none, one-more, appended-entry, appended-stored}
 
@@ -63,7 +63,7 @@ record Holds (Z : Shape) (c first : ℕ) (b : Bytes) (l : List Appending) : Type
 holds-fresh : (Z : Shape) (c first : ℕ) → isWitness Z c ≡ false → formatRefusal Z c first (imageSize Z c) ≡ 0 → Holds Z c first (freshImage Z c first) []
 holds-fresh Z c first card h = record {
   begins = fresh-first Z c first (formatted-first Z c first (imageSize Z c) h);
-  readable = card-intro Z c (freshImage Z c first) card (fresh-readable Z c first h);
+  readable = kind-intro _ Z c (freshImage Z c first) card (fresh-readable Z c first h);
   many = fresh-length Z c first;
   whole = λ k x. absurd (omega arith);
   epochs = λ k x. absurd (omega arith);
@@ -135,7 +135,7 @@ module _ (Z : Shape) (c first : ℕ) (b : Bytes) (l : List Appending) (w : Holds
   fits = omega (arith, length-le (Z .m) image, w .many)
 
   sound : Sound (Z .m) image
-  sound = readable-image Z c b (card-readable Z c b (w .readable))
+  sound = readable-image Z c b (kind-readable _ Z c b (w .readable))
 
   rest : (k : ℕ) → length l ≤ k → k < Z .m → conditionAt image k ≡ Unused
   unfolding conditionAt condition

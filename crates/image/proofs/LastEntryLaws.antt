@@ -21,7 +21,7 @@ use Rattle.image.specs.View.{Faulty, conditionAt, epochAt, logLength, ca
 use Rattle.image.specs.Verdict.{verdictAt}
 use Rattle.image.specs.Append.{lastEpoch, appendRefusal, stored, appended}
 use Rattle.image.specs.LastEntry.{TwoHistories, Untold, MayBeTorn}
-use Rattle.image.proofs.CardLaws.{card-card, card-readable}
+use Rattle.image.proofs.KindLaws.{kind-own, kind-readable}
 use Rattle.image.proofs.ViewLaws.{Sound, length-le}
 use Rattle.image.proofs.DecodeLaws.{record-fits, entry-fits, record-there, entry-there, record-spliced, record-keeps-first}
 use Rattle.image.proofs.VerdictLaws.{faulty-slot, is-doubtful, is-stale, is-noise}
@@ -90,13 +90,13 @@ module _ (Z : Shape) (c : ℕ) (b : Bytes) (k : ℕ) (r : cardRefusal Z c b ≡ 
   km = omega (arith, length-le (Z .m) i, last)
 
   card : isWitness Z c ≡ false
-  card = card-card Z c b r
+  card = kind-own _ Z c b r
 
   size : length b ≡ imageSize Z c
-  size = readable-size Z c b (card-readable Z c b r)
+  size = readable-size Z c b (kind-readable _ Z c b r)
 
   sound : Sound (Z .m) i
-  sound = readable-image Z c b (card-readable Z c b r)
+  sound = readable-image Z c b (kind-readable _ Z c b r)
 
   slot : (i .records k ≡ good e) × ((q : Bytes) → ¬ (i .entries k ≡ intact e q))
   slot = faulty-slot (Z .m) i k faulty
@@ -158,7 +158,7 @@ module _ (Z : Shape) (c : ℕ) (b : Bytes) (k : ℕ) (r : cardRefusal Z c b ≡ 
   pub torn : verdictAt (Z .m) (decodeImage Z c b) k ≡ 4 → (p : Bytes) → MayBeTorn (index (firstIn Z c b) k) (epochAt (decodeImage Z c b) k) p (part b (entryAt Z k) 240)
   torn v p f q x =
       let w = is-doubtful (Z .m) (decodeImage Z c b) k v in
-      absurd (is-noise (Z .m) (decodeImage Z c b) k 4 (omega arith) (omega arith) v f q (entry-there Z c b k (card-card Z c b r) (omega (arith, length-le (Z .m) (decodeImage Z c b), w .1)) ∙ x))
+      absurd (is-noise (Z .m) (decodeImage Z c b) k 4 (omega arith) (omega arith) v f q (entry-there Z c b k (kind-own _ Z c b r) (omega (arith, length-le (Z .m) (decodeImage Z c b), w .1)) ∙ x))
 
   -- an intact entry of another epoch is neither torn nor the one being written
   pub stale-not-torn : verdictAt (Z .m) (decodeImage Z c b) k ≡ 6 → logLength (Z .m) (decodeImage Z c b) ≡ suc k → (p : Bytes)
@@ -167,4 +167,4 @@ module _ (Z : Shape) (c : ℕ) (b : Bytes) (k : ℕ) (r : cardRefusal Z c b ≡ 
       let i = decodeImage Z c b in
       let (a, (f, q, x)) = is-stale (Z .m) i k v in
       let km : k < Z .m = omega (arith, length-le (Z .m) i, last) in
-      faulty-slot (Z .m) i k a .1 q (x ∙ ap (λ (e : ℕ). intact e q) (t f q (sym (entry-there Z c b k (card-card Z c b r) km) ∙ x) .0))
+      faulty-slot (Z .m) i k a .1 q (x ∙ ap (λ (e : ℕ). intact e q) (t f q (sym (entry-there Z c b k (kind-own _ Z c b r) km) ∙ x) .0))

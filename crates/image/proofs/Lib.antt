@@ -1,7 +1,7 @@
 -- Laws that the proofs of this crate, and of the crates above it, cite.
 pub mod RefusalLaws
 pub mod CallLaws
-pub mod CardLaws
+pub mod KindLaws
 pub mod ViewLaws
 pub mod ScanLaws
 pub mod ScannedLaws

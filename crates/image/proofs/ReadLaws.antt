@@ -22,7 +22,7 @@ use Rattle.image.specs.Witness.{epochsRefusal}
 use Rattle.image.specs.Answers.{Numbered, refused, value, numbered}
 use Rattle.image.proofs.RefusalLaws.{else-first, else-next, else-zero-l, refuse-on, refuse-off}
 use Rattle.image.proofs.CallLaws.{called-slots, called-size}
-use Rattle.image.proofs.CardLaws.{card-card, card-readable, witness-readable}
+use Rattle.image.proofs.KindLaws.{kind-own, kind-readable}
 use Rattle.image.proofs.ScannedLaws.{taken-at}
 
 -- ---- refusals 1 to 7
@@ -43,21 +43,21 @@ module _ (Z : Shape) (c : ℕ) (b : Bytes) (r : ℕ) where
   -- a card's image that is not refused
   module _ (e : r ≡ cardRefusal Z c b) (h : r ≡ 0) where
     pub opened-slots : isSlots (Z .m) ≡ true
-    opened-slots = called-slots Z c (length b) (call-passed (card-readable Z c b (sym e ∙ h)))
+    opened-slots = called-slots Z c (length b) (call-passed (kind-readable _ Z c b (sym e ∙ h)))
 
     pub opened-size : length b ≡ imageSize Z c
-    opened-size = called-size Z c (length b) (call-passed (card-readable Z c b (sym e ∙ h)))
+    opened-size = called-size Z c (length b) (call-passed (kind-readable _ Z c b (sym e ∙ h)))
 
     pub opened-card : isWitness Z c ≡ false
-    opened-card = card-card Z c b (sym e ∙ h)
+    opened-card = kind-own _ Z c b (sym e ∙ h)
 
   -- and a witness's
   module _ (e : r ≡ witnessRefusal Z c b) (h : r ≡ 0) where
     pub witnessed-slots : isSlots (Z .m) ≡ true
-    witnessed-slots = called-slots Z c (length b) (call-passed (witness-readable Z c b (sym e ∙ h)))
+    witnessed-slots = called-slots Z c (length b) (call-passed (kind-readable _ Z c b (sym e ∙ h)))
 
     pub witnessed-size : length b ≡ imageSize Z c
-    witnessed-size = called-size Z c (length b) (call-passed (witness-readable Z c b (sym e ∙ h)))
+    witnessed-size = called-size Z c (length b) (call-passed (kind-readable _ Z c b (sym e ∙ h)))
 
 -- ---- reading a card's image
 

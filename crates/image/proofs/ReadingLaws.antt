@@ -20,7 +20,7 @@ use Rattle.image.specs.Verdict.{isFresh, verdictAt}
 use Rattle.image.specs.Read.{hasPayload, payloadOf}
 use Rattle.image.specs.ReadingClaim.{Stale, Reading}
 use Rattle.image.proofs.CallLaws.{slots-high}
-use Rattle.image.proofs.CardLaws.{card-card, card-readable}
+use Rattle.image.proofs.KindLaws.{kind-own, kind-readable}
 use Rattle.image.proofs.ReadLaws.{opened-slots}
 use Rattle.image.proofs.AcceptLaws.{readable-image}
 use Rattle.image.proofs.DecodeLaws.{entry-there}
@@ -114,10 +114,10 @@ module _ (Z : Shape) (c : ℕ) (b : Bytes) (ok : cardRefusal Z c b ≡ 0) where
   len = logLength (Z .m) (decodeImage Z c b)
 
   card : isWitness Z c ≡ false
-  card = card-card Z c b ok
+  card = kind-own _ Z c b ok
 
   sound : Sound (Z .m) i
-  sound = readable-image Z c b (card-readable Z c b ok)
+  sound = readable-image Z c b (kind-readable _ Z c b ok)
 
   few : Z .m ≤ 64
   few = slots-high (Z .m) (opened-slots Z c b 0 (sym ok) refl)

@@ -21,7 +21,7 @@ use Rattle.image.specs.View.{Whole, Faulty, isSize, isReplica, isSlots, 
 use Rattle.image.specs.RefusalClaim.{Lowest, NoneLost, NoneBad, Passes, ReadPasses, CardPasses, WitnessPasses}
 use Rattle.image.proofs.CallLaws.{is-slots, slots-low, slots-high, is-size, size-low, size-high, is-replica, is-edition, edition-from, edition-to}
 use Rattle.image.proofs.ViewLaws.{length-le, used-below, blank-next, gap-elim, gap-intro, lost-elim, lost-intro, rising-intro, rising-all}
-use Rattle.image.proofs.CardLaws.{card-chain, witness-chain}
+use Rattle.image.proofs.KindLaws.{kind-chain, witness-chain}
 use Rattle.image.proofs.DecodeLaws.{none-there}
 use Rattle.image.proofs.LowestLaws.{From, Decides, try, last-of, else-assoc}
 
@@ -202,7 +202,7 @@ module _ (Z : Shape) (c : ℕ) (b : Bytes) where
   lowest-card =
       lowest-of Z c b ((isWitness Z c ≡ false) × (length b ≡ imageSize Z c)) _ (not (isWitness Z c) && eqb (length b) (imageSize Z c))
       (both-decide (not (isWitness Z c)) (eqb (length b) (imageSize Z c)) (not-decides (isWitness Z c)) (bytes-decides Z c (length b)))
-      (λ _. lost-decides (Z .m) (decodeImage Z c b)) (card-chain Z c b)
+      (λ _. lost-decides (Z .m) (decodeImage Z c b)) (kind-chain _ Z c b)
 
   pub lowest-witness : Lowest (WitnessPasses Z c b (decodeImage Z c b)) (witnessRefusal Z c b)
   lowest-witness =

@@ -1,7 +1,7 @@
 -- A witness's image (02, Seven): reading it, an append of an epoch, and a list of them.
 use Prim.Native.Nat.{ℕ, suc, _-_, _≤_, _<_}
 use mathlib.Core.Path.{_≡_, refl, sym, ap, _∙_}
-use mathlib.Core.Bool.{Bool, true, false, cond, true≢false}
+use mathlib.Core.Bool.{Bool, true, false, cond, true≢false, not}
 use mathlib.Core.List.{List, [], _∷_, _++_, append-nil}
 use native.Mathlib.Omega.{arith}
 use native.Mathlib.Decide.{ℕ-discrete}
@@ -25,7 +25,7 @@ use Rattle.image.specs.Witness.{recordRefusal, recorded, recordAppended}
 use Rattle.image.specs.WitnessClaim.{WitnessReading, EmptyWitness, OneRecordMore, recordAll, RecordsAccepted, ReadsAsEpochs}
 use Rattle.image.proofs.ViewLaws.{Sound, gap-intro, length-count, length-le}
 use Rattle.image.proofs.CallLaws.{formatted-first}
-use Rattle.image.proofs.CardLaws.{witness-witness, witness-readable, witness-intro}
+use Rattle.image.proofs.KindLaws.{kind-own, kind-readable, kind-intro, witness-witness}
 use Rattle.image.proofs.DecodeLaws.{record-fits, first-is, none-there, record-spliced}
 use Rattle.image.proofs.StoreLaws.{record-epoch, record-epoch-other, appended-length, appended-sound}
 use Rattle.image.proofs.FreshLaws.{length-fresh-image, fresh-first, fresh-readable, fresh-length, fresh-blank}
@@ -44,7 +44,7 @@ pub witness-reads : (Z : Shape) (c : ℕ) (b : Bytes) → witnessRefusal Z c b �
 unfolding conditionAt
 witness-reads Z c b ok =
     let i = decodeImage Z c b in
-    let s = readable-image Z c b (witness-readable Z c b ok) in
+    let s = readable-image Z c b (kind-readable _ Z c b ok) in
     record {
       length-is = length-count (Z .m) i (gap-intro (Z .m) i (s .tail));
       epoch-good = good-epoch (Z .m) i;
@@ -87,10 +87,10 @@ module _ (Z : Shape) (c : ℕ) (b : Bytes) (e : ℕ) (d : Bytes) (high : e ≤ 4
   len = logLength (Z .m) (decodeImage Z c b)
 
   size : length b ≡ imageSize Z c
-  size = readable-size Z c b (witness-readable Z c b (ok .readable))
+  size = readable-size Z c b (kind-readable _ Z c b (ok .readable))
 
   sound : Sound (Z .m) before
-  sound = readable-image Z c b (witness-readable Z c b (ok .readable))
+  sound = readable-image Z c b (kind-readable _ Z c b (ok .readable))
 
   as-long : length d ≡ length b
   as-long = ap length by ∙ length-recorded Z c b size len (ok .room) e refl
@@ -100,8 +100,8 @@ module _ (Z : Shape) (c : ℕ) (b : Bytes) (e : ℕ) (d : Bytes) (high : e ≤ 4
 
   readable : witnessRefusal Z c d ≡ 0
   readable =
-      witness-intro Z c d (witness-witness Z c b (ok .readable))
-      (readable-still Z c b d as-long (witness-readable Z c b (ok .readable))
+      kind-intro _ Z c d (kind-own _ Z c b (ok .readable))
+      (readable-still Z c b d as-long (kind-readable _ Z c b (ok .readable))
       (rw becomes (appended-sound (Z .m) before len e sound refl (ok .room) (good-kept e (before .entries len)) (rising-last Z c b sound e (ok .rising)))))
 
   grown : logLength (Z .m) (decodeImage Z c d) ≡ suc len
@@ -148,7 +148,7 @@ record-more Z c b e high ok = one-record-more Z c b e (recordAppended Z c b e) h
 pub empty-witness : (Z : Shape) (c first : ℕ) → isWitness Z c ≡ true → formatRefusal Z c first (imageSize Z c) ≡ 0 → EmptyWitness Z c first (freshImage Z c first)
 empty-witness Z c first witness h = record {
   size = length-fresh-image Z c first;
-  readable = witness-intro Z c (freshImage Z c first) witness (fresh-readable Z c first h);
+  readable = kind-intro _ Z c (freshImage Z c first) (ap not witness) (fresh-readable Z c first h);
   begins = fresh-first Z c first (formatted-first Z c first (imageSize Z c) h);
   none = fresh-length Z c first;
   blanks = λ k x. fresh-blank Z c first k;
@@ -207,7 +207,7 @@ reads-as Z c first b l w = record {
     image = decodeImage Z c b
 
     sound : Sound (Z .m) (decodeImage Z c b)
-    sound = readable-image Z c b (witness-readable Z c b (w .readable))
+    sound = readable-image Z c b (kind-readable _ Z c b (w .readable))
 
 pub several-epochs : (Z : Shape) (c first : ℕ) (l : List ℕ) → isWitness Z c ≡ true → formatRefusal Z c first (imageSize Z c) ≡ 0
     → RecordsAccepted Z c (freshImage Z c first) l → ReadsAsEpochs Z c first (recordAll Z c (freshImage Z c first) l) l

@@ -105,13 +105,15 @@ callRefusal Z c size = namedRefusal Z c else refuse 3 (not (eqb size (imageSize 
 unfoldable pub readRefusal : Shape → ℕ → Bytes → ℕ
 readRefusal Z c b = callRefusal Z c (length b) else imageRefusal (Z .m) (decodeImage Z c b)
 
--- of a call for cards: a replica that the shape names a witness has no card (02, Seven)
-unfoldable pub cardRefusal : Shape → ℕ → Bytes → ℕ
-cardRefusal Z c b = namedRefusal Z c else refuse 3 (isWitness Z c) else readRefusal Z c b
+-- of a call for one kind of replica, cards or witnesses (02, Seven): 3 if the shape says that this one is of the other kind
+unfoldable pub kindRefusal : Bool → Shape → ℕ → Bytes → ℕ
+kindRefusal other Z c b = namedRefusal Z c else refuse 3 other else readRefusal Z c b
 
--- of a call for witnesses: any other replica has no witness's image
-unfoldable pub witnessRefusal : Shape → ℕ → Bytes → ℕ
-witnessRefusal Z c b = namedRefusal Z c else refuse 3 (not (isWitness Z c)) else readRefusal Z c b
+abbrev pub cardRefusal : Shape → ℕ → Bytes → ℕ
+cardRefusal Z c b = kindRefusal (isWitness Z c) Z c b
+
+abbrev pub witnessRefusal : Shape → ℕ → Bytes → ℕ
+witnessRefusal Z c b = kindRefusal (not (isWitness Z c)) Z c b
 
 -- what planner and recovery see of a replica
 pub record View : Type 0 where

@@ -9,7 +9,7 @@ use Rattle.record.specs.Layout.{isWitness, headerWord, givesFirst, headerSize, 
 use Rattle.record.specs.Meaning.{isEpoch, firstIndex, isFirst, headerFirst, isHeader, readHeader, isGood, recordEpoch, readRecord, isIntact, entryEpoch, entryPayload, readEntry}
 use Rattle.image.specs.Refusal.{refuse, _else_}
 use Rattle.image.specs.Image.{entriesSize, index, imageSize, recordAt, entryAt, decodeUnder, firstIn, decodeImage}
-use Rattle.image.specs.View.{conditionAs, seenAs, cardRefusal, condition, epochOf, conditionAt, epochAt, isBlank, isProper, isLost, logLength, noGap, noneLost, rising, imageRefusal, callRefusal, readRefusal, viewOf, isSize, isReplica, isSlots, isEdition, namedRefusal}
+use Rattle.image.specs.View.{conditionAs, seenAs, kindRefusal, condition, epochOf, conditionAt, epochAt, isBlank, isProper, isLost, logLength, noGap, noneLost, rising, imageRefusal, callRefusal, readRefusal, viewOf, isSize, isReplica, isSlots, isEdition, namedRefusal}
 use Rattle.image.specs.Verdict.{verdictOf, verdictAt, isFresh}
 use Rattle.image.specs.Append.{lastEpoch, appendRefusal}
 use Rattle.image.specs.Read.{isWhole, hasPayload}
@@ -25,5 +25,5 @@ use Rattle.protocol.specs.Call.{budgetOf, refusalOf}
 use Rattle.protocol.specs.CallResult.{stepResult, runResult, answered, readyResult, acceptedResult, callResult, callBytes}
 
 unfoldable pub opened : ℕ
-unfolding lowest count sum oneIf all listed joined part spliced same sumA sumB checksumOf digits column digitStep valueFrom valueOf givesFirst headerSize sealed firstColumn headerWord headerBytes recordBytes blankRecord padded entryBytes freshEntry isEpoch firstIndex isFirst headerFirst isHeader readHeader isGood recordEpoch readRecord isIntact entryEpoch entryPayload readEntry refuse _else_ index entriesSize imageSize recordAt entryAt decodeUnder firstIn decodeImage condition epochOf conditionAt epochAt isBlank isProper isLost logLength noGap noneLost rising imageRefusal callRefusal readRefusal cardRefusal viewOf isSize isReplica isSlots isEdition namedRefusal verdictOf verdictAt isFresh lastEpoch appendRefusal isWhole hasPayload imageAt imagePart firstAt decode decodeWith settingOf has isWitness conditionAs seenAs viewsOf majority mayTruncate isFaulty isRecordLost isRecordOnly isUsed isTruncate isFetch isWait answers agrees have dontHave donor rule end firstWaiting mayLead sameFirsts answer viewsIn shapeRefusal clusterRefusal lentRefusal planRefusal keptByte ruleByte planByte planBytes storeReplica storeSlot storeKind sameEntry _or_ ifBelow leaderStore differs firstDiffering followerStore isSome firstOf ifReady unlike due followersStore next after nextIn afterStoreBytes stepsBytes storesBytes budgetOf refusalOf stepResult runResult answered readyResult acceptedResult callResult callBytes
+unfolding lowest count sum oneIf all listed joined part spliced same sumA sumB checksumOf digits column digitStep valueFrom valueOf givesFirst headerSize sealed firstColumn headerWord headerBytes recordBytes blankRecord padded entryBytes freshEntry isEpoch firstIndex isFirst headerFirst isHeader readHeader isGood recordEpoch readRecord isIntact entryEpoch entryPayload readEntry refuse _else_ index entriesSize imageSize recordAt entryAt decodeUnder firstIn decodeImage condition epochOf conditionAt epochAt isBlank isProper isLost logLength noGap noneLost rising imageRefusal callRefusal readRefusal kindRefusal viewOf isSize isReplica isSlots isEdition namedRefusal verdictOf verdictAt isFresh lastEpoch appendRefusal isWhole hasPayload imageAt imagePart firstAt decode decodeWith settingOf has isWitness conditionAs seenAs viewsOf majority mayTruncate isFaulty isRecordLost isRecordOnly isUsed isTruncate isFetch isWait answers agrees have dontHave donor rule end firstWaiting mayLead sameFirsts answer viewsIn shapeRefusal clusterRefusal lentRefusal planRefusal keptByte ruleByte planByte planBytes storeReplica storeSlot storeKind sameEntry _or_ ifBelow leaderStore differs firstDiffering followerStore isSome firstOf ifReady unlike due followersStore next after nextIn afterStoreBytes stepsBytes storesBytes budgetOf refusalOf stepResult runResult answered readyResult acceptedResult callResult callBytes
 opened = 0

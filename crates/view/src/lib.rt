@@ -9,7 +9,7 @@ ghost use Rattle.record.specs.Layout.{isWitness};
 ghost use Rattle.record.specs.Meaning.{Entry, good, bad};
 ghost use Rattle.record.specs.Judged.{recordAnswer, entryAnswer};
 ghost use Rattle.image.specs.Image.{imageSize, recordAt, entryAt, decodeUnder, decodeImage};
-ghost use Rattle.image.specs.View.{isSlots, imageRefusal, readRefusal, cardRefusal, witnessRefusal};
+ghost use Rattle.image.specs.View.{isSlots, imageRefusal, readRefusal, kindRefusal, cardRefusal, witnessRefusal};
 ghost use Rattle.image.specs.Seen.{Seen};
 ghost use Rattle.image.specs.Scan.{SlotIs, Scanned};
 use image::MAX_SLOTS;
@@ -215,9 +215,9 @@ pub fn open_image(image: &[u8], shape: Shape, replica: usize) -> ImageView
     view_image(image, shape, replica)
 }
 
-// Views an image as a call for cards names it: a witness has no card, which is 3.
-pub fn open_card(image: &[u8], shape: Shape, replica: usize) -> ImageView
-    ensures refusal { λ r. ⌜ r .refusal ≡ cardRefusal shape replica (now (image .entry)) ⌝ }
+// Views an image as a call for one kind of replica names it: one of the other kind is 3 (document 02, Seven).
+fn open_kind(image: &[u8], shape: Shape, replica: usize, other: bool) -> ImageView
+    ensures refusal { λ r. ⌜ r .refusal ≡ kindRefusal other shape replica (now (image .entry)) ⌝ }
     ensures seen { λ r. ⌜ (r .refusal ≡ 0
         → Seen (shape .m) (decodeImage shape replica (now (image .entry))) (r .first) (r .length) (r .conditions) (r .epochs)) ⌝ }
 {
@@ -225,28 +225,30 @@ pub fn open_card(image: &[u8], shape: Shape, replica: usize) -> ImageView
     if named != 0 {
         return refused_view(named);
     }
-    let other = is_witness(shape, replica);
     if other {
         return refused_view(3);
     }
     open_image(image, shape, replica)
 }
 
-// Views an image as a call for witnesses names it: any other replica has a card, which is 3.
+// Views an image as a call for cards names it: a witness has no card.
+pub fn open_card(image: &[u8], shape: Shape, replica: usize) -> ImageView
+    ensures refusal { λ r. ⌜ r .refusal ≡ cardRefusal shape replica (now (image .entry)) ⌝ }
+    ensures seen { λ r. ⌜ (r .refusal ≡ 0
+        → Seen (shape .m) (decodeImage shape replica (now (image .entry))) (r .first) (r .length) (r .conditions) (r .epochs)) ⌝ }
+{
+    let other = is_witness(shape, replica);
+    open_kind(image, shape, replica, other)
+}
+
+// Views an image as a call for witnesses names it: any other replica has a card.
 pub fn open_witness(image: &[u8], shape: Shape, replica: usize) -> ImageView
     ensures refusal { λ r. ⌜ r .refusal ≡ witnessRefusal shape replica (now (image .entry)) ⌝ }
     ensures seen { λ r. ⌜ (r .refusal ≡ 0
         → Seen (shape .m) (decodeImage shape replica (now (image .entry))) (r .first) (r .length) (r .conditions) (r .epochs)) ⌝ }
 {
-    let unnamed = named_refusal(shape, replica);
-    if unnamed != 0 {
-        return refused_view(unnamed);
-    }
     let witness = is_witness(shape, replica);
-    if !witness {
-        return refused_view(3);
-    }
-    open_image(image, shape, replica)
+    open_kind(image, shape, replica, !witness)
 }
 
 // Whether a condition is whole, its record lost or not.

@@ -3,7 +3,7 @@ use lib.ListN.{length}
 use Rattle.image.specs.Append.{appended}
 use Rattle.image.specs.Image.{imageSize, freshImage}
 use Rattle.image.proofs.CallLaws.{formatted-first}
-use Rattle.image.proofs.CardLaws.{card-intro}
+use Rattle.image.proofs.KindLaws.{kind-intro}
 use Rattle.image.proofs.FreshLaws.{length-fresh-image, fresh-first, fresh-readable, fresh-length, fresh-blank, fresh-verdict}
 use Rattle.image.proofs.AcceptLaws.{accepts-elim, last-epoch-again}
 use Rattle.image.proofs.AppendLaws.{appended-stored, one-more}
@@ -16,7 +16,7 @@ returns : tie.Need-returns
 returns z = record {
   fresh = λ Z c first card h. record {
     size = length-fresh-image Z c first;
-    readable = card-intro Z c (freshImage Z c first) card (fresh-readable Z c first h);
+    readable = kind-intro _ Z c (freshImage Z c first) card (fresh-readable Z c first h);
     begins = fresh-first Z c first (formatted-first Z c first (imageSize Z c) h);
     none = fresh-length Z c first;
     blanks = λ k x. fresh-blank Z c first k;

@@ -21,7 +21,7 @@ use Rattle.image.proofs.RefusalLaws.{else-first, else-next}
 use Rattle.image.proofs.CallLaws.{slots-high, named-slots-in, edition-from, edition-to, named-edition-in, format-named, format-first, format-bytes, format-none}
 use Rattle.image.proofs.AppendSteps.{bare, deny-zero, deny-lower, deny-long, deny-full, deny-none}
 use Rattle.image.proofs.RefusedLaws.{lowest-wins, lowest-card, lowest-witness}
-use Rattle.image.proofs.CardLaws.{card-as-read}
+use Rattle.image.proofs.KindLaws.{kind-as-read}
 use Rattle.image.proofs.refusal_claim.Statement.{statement}
 use Rattle.image.proofs.refusal_claim.Tie as tie
 
@@ -113,7 +113,7 @@ returns z = record {
   reading = lowest-wins;
   cards = lowest-card;
   witnesses = lowest-witness;
-  card-as-before = card-as-read;
+  card-as-before = λ Z c b card. kind-as-read _ Z c b card;
   formatting = format-refused;
   appending = append-refused;
   recording = record-refused;
