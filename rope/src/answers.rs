@@ -1,0 +1,150 @@
+//! Why the plan is what it is: what each cabinet answers about a faulty place of the lead.
+
+use ropelog::{Epoch, Replica};
+
+use crate::cluster::{Cluster, Seat};
+use crate::words;
+
+/// What a cabinet answers about a place, or why it does not.
+#[derive(Clone, Copy, Debug, PartialEq, Eq)]
+pub enum Answer {
+    /// It has the reading whole.
+    Have,
+    /// It has the place, and its reading is damaged too.
+    HaveFaulty,
+    /// A witness box that has the line, and no reading.
+    HaveLine,
+    /// It never had the reading.
+    DontHave,
+    /// It is off or unreadable.
+    Away,
+}
+
+/// The answers of all cabinets but the lead, by number.
+pub struct Answers {
+    replicas: usize,
+    given: Vec<(usize, Answer)>,
+}
+
+impl Answers {
+    /// The answers about a place of the lead, which has this epoch.
+    pub fn about(cluster: &Cluster, slot: usize, epoch: Epoch) -> Answers {
+        let others = cluster
+            .geometry
+            .replicas()
+            .filter(|&replica| replica != cluster.leader);
+        Answers {
+            replicas: cluster.geometry.replica_count(),
+            given: others
+                .map(|replica| (replica.number(), answer(cluster, replica, slot, epoch)))
+                .collect(),
+        }
+    }
+
+    /// The cabinets that gave this answer.
+    pub fn of(&self, answer: Answer) -> Vec<usize> {
+        let such = self.given.iter().filter(|(_, given)| *given == answer);
+        such.map(|(number, _)| *number).collect()
+    }
+
+    /// How many more don't-haves would allow a cut: those that may have held it, the lead and the absent
+    /// among them, are then fewer than a majority of all.
+    pub fn missing_for_a_cut(&self) -> usize {
+        let majority = self.replicas / 2 + 1;
+        let needed = self.replicas - majority + 1;
+        needed.saturating_sub(self.of(Answer::DontHave).len())
+    }
+
+    /// Who answered what: "whole at cabinet 3; damaged at cabinet 2 too; cabinet 4 is off".
+    pub fn in_words(&self) -> String {
+        let part = |answer: Answer, before: &str, one: &str, more: &str| {
+            let numbers = self.of(answer);
+            let behind = if numbers.len() == 1 { one } else { more };
+            (!numbers.is_empty()).then(|| format!("{before}{}{behind}", words::cabinets(&numbers)))
+        };
+        let parts = [
+            part(Answer::Have, "", " has it whole", " have it whole"),
+            part(Answer::HaveFaulty, "damaged at ", " too", " too"),
+            part(
+                Answer::HaveLine,
+                "",
+                ", a witness box, has its line",
+                ", witness boxes, have its line",
+            ),
+            part(Answer::DontHave, "", " never had it", " never had it"),
+            part(
+                Answer::Away,
+                "",
+                " is off or unreadable",
+                " are off or unreadable",
+            ),
+        ];
+        parts.into_iter().flatten().collect::<Vec<_>>().join("; ")
+    }
+
+    /// What would end the wait for a place.
+    pub fn end_of_wait(&self, cluster: &Cluster) -> String {
+        let away = self.of(Answer::Away);
+        if away.is_empty() {
+            return "Every cabinet has answered and none has the reading whole, but too many may have held \
+                    it to cut it. Only an older copy of a card can bring it back; nothing is written until \
+                    then."
+                .to_string();
+        }
+        let unsure = |number: &usize| {
+            let is_box = |seat: &Seat| matches!(seat, Seat::Unreadable(_));
+            let witness = cluster.geometry.witnesses().word() >> (number - 1) & 1 == 1;
+            !witness || is_box(&cluster.seats[number - 1])
+        };
+        let cards: Vec<usize> = away.iter().copied().filter(unsure).collect();
+        let mut text = String::new();
+        if !cards.is_empty() {
+            let each = if cards.len() == 1 {
+                "It ends"
+            } else {
+                "Each of them ends"
+            };
+            text = format!(
+                "Switch on, or make readable: {}. {each} the wait if its card has the reading whole.",
+                words::cabinets(&cards)
+            );
+        }
+        let missing = self.missing_for_a_cut();
+        if missing <= away.len() {
+            if !text.is_empty() {
+                text.push(' ');
+            }
+            text += &if missing == away.len() {
+                format!(
+                    "If {} never had it the place may be cut.",
+                    match away[..] {
+                        [number] => format!("cabinet {number}"),
+                        _ => format!("{} all say that they", words::cabinets(&away)),
+                    }
+                )
+            } else {
+                format!(
+                    "If {missing} of {} never had it the place may be cut.",
+                    words::cabinets(&away)
+                )
+            };
+        } else {
+            text += " Their saying that they never had it would not be enough for a cut.";
+        }
+        text
+    }
+}
+
+fn answer(cluster: &Cluster, replica: Replica, slot: usize, epoch: Epoch) -> Answer {
+    match cluster.seat(replica) {
+        Seat::Off | Seat::NoCard | Seat::Unreadable(_) => Answer::Away,
+        Seat::Witness(log) if log.epoch(slot) == Some(epoch) => Answer::HaveLine,
+        Seat::Witness(_) => Answer::DontHave,
+        Seat::Card(log) => match log.slot(slot) {
+            Some(state) if state.epoch != Some(epoch) => Answer::DontHave,
+            Some(state) if state.verdict.is_whole() => Answer::Have,
+            Some(state) if state.verdict.is_faulty() => Answer::HaveFaulty,
+            _ => Answer::DontHave,
+        },
+    }
+}

@@ -1,0 +1,38 @@
+//! The plan in numbers: what the printing program prints of the same cards.
+
+use std::io::Write;
+
+use ropelog::{Plan, PlanAnswer, Refusal};
+
+use crate::cluster::Cluster;
+use crate::outcome::Failure;
+use crate::plan::leaders_log;
+
+/// Prints the plan or its refusal, in the printing program's columns.
+pub fn print(
+    cluster: &Cluster,
+    planned: &Result<Plan, Refusal>,
+    out: &mut impl Write,
+) -> Result<(), Failure> {
+    let plan = match planned {
+        Ok(plan) => plan,
+        Err(refusal) => {
+            writeln!(out, "refused{:>4}", refusal.number())?;
+            return Ok(());
+        }
+    };
+    let (status, number) = match plan.answer() {
+        PlanAnswer::Ready { length } => (0, length),
+        PlanAnswer::Waiting { slot } => (1, slot),
+    };
+    let (n, leader) = (cluster.geometry.replica_count(), cluster.leader.number());
+    writeln!(out, "{n:>4}{leader:>4}{status:>4}{number:>4}")?;
+    let log = leaders_log(cluster);
+    for slot in 1..=log.length() {
+        let epoch = log.slot(slot).and_then(|state| state.epoch);
+        let epoch = epoch.map_or(0, |epoch| epoch.number());
+        let byte = plan.action(slot).map_or(0, |action| action.number());
+        writeln!(out, "{slot:>4}{epoch:>11}{byte:>4}")?;
+    }
+    Ok(())
+}
