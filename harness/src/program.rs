@@ -7,7 +7,7 @@ use std::thread;
 use std::time::Duration;
 
 /// The program as the gate builds it.
-fn program() -> PathBuf {
+pub fn program() -> PathBuf {
     let program = Path::new(env!("CARGO_MANIFEST_DIR")).join("../target/bin/ropeplan");
     assert!(
         program.is_file(),

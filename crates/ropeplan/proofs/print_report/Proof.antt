@@ -1,20 +1,8 @@
 use mathlib.Core.Path.{sym}
 use lib.Seq.{length-take-le}
 use borrow.Author.Needs.{needs}
-use Rattle.ropeplan.proofs.main.Statement.{statement}
-use Rattle.ropeplan.proofs.main.Tie as tie
-
-slice-aggregate-read-full : tie.Need-slice-aggregate-read-full
-slice-aggregate-read-full c = search needs
-
-read-full-requires : tie.Need-read-full-requires
-read-full-requires c κs = search needs
-
-array-share-prefix-input : tie.Need-array-share-prefix-input
-array-share-prefix-input c = search needs
-
-slice-aggregate-report-of : tie.Need-slice-aggregate-report-of
-slice-aggregate-report-of c = search needs
+use Rattle.ropeplan.proofs.print_report.Statement.{statement}
+use Rattle.ropeplan.proofs.print_report.Tie as tie
 
 report-of-requires : tie.Need-report-of-requires
 report-of-requires c κs = search needs
@@ -28,19 +16,27 @@ slice-aggregate-write-all c = sym (length-take-le _ _ (c .before .before .report
 write-all-requires : tie.Need-write-all-requires
 write-all-requires c κs = search needs
 
+slice-aggregate-fail : tie.Need-slice-aggregate-fail
+slice-aggregate-fail c = search needs
+
+fail-requires : tie.Need-fail-requires
+fail-requires c κs = search needs
+
 returns : tie.Need-returns
 returns c = search needs
 
-pub main-spec : {M : Type 1} → statement M
-main-spec =
+returns-2 : tie.Need-returns-2
+returns-2 c = search needs
+
+pub print-report-spec : {M : Type 1} → statement M
+print-report-spec =
     tie.close
     (tie.spec
-    slice-aggregate-read-full
-    read-full-requires
-    array-share-prefix-input
-    slice-aggregate-report-of
     report-of-requires
     array-share-prefix-bytes
     slice-aggregate-write-all
     write-all-requires
-    returns)
+    slice-aggregate-fail
+    fail-requires
+    returns
+    returns-2)
