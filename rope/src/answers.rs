@@ -1,6 +1,6 @@
 //! Why the plan is what it is: what each cabinet answers about a faulty place of the lead.
 
-use ropelog::{Epoch, Replica};
+use ropelog::{Epoch, Replica, ReplicaSet};
 
 use crate::cluster::{Cluster, Seat};
 use crate::words;
@@ -82,56 +82,53 @@ impl Answers {
         parts.into_iter().flatten().collect::<Vec<_>>().join("; ")
     }
 
-    /// What would end the wait for a place.
-    pub fn end_of_wait(&self, cluster: &Cluster) -> String {
+    /// What would end the wait for a place: who, switched on, and with which answer.
+    pub fn end_of_wait(&self, witnesses: ReplicaSet) -> String {
         let away = self.of(Answer::Away);
         if away.is_empty() {
-            return "Every cabinet has answered and none has the reading whole, but too many may have held \
-                    it to cut it. Only an older copy of a card can bring it back; nothing is written until \
-                    then."
+            return "every cabinet has answered and none has the reading whole, but too many may have held it to \
+                    cut it; only an older copy of a card can bring it back"
                 .to_string();
         }
-        let unsure = |number: &usize| {
-            let is_box = |seat: &Seat| matches!(seat, Seat::Unreadable(_));
-            let witness = cluster.geometry.witnesses().word() >> (number - 1) & 1 == 1;
-            !witness || is_box(&cluster.seats[number - 1])
-        };
-        let cards: Vec<usize> = away.iter().copied().filter(unsure).collect();
-        let mut text = String::new();
-        if !cards.is_empty() {
-            let each = if cards.len() == 1 {
-                "It ends"
-            } else {
-                "Each of them ends"
-            };
-            text = format!(
-                "Switch on, or make readable: {}. {each} the wait if its card has the reading whole.",
-                words::cabinets(&cards)
-            );
-        }
-        let missing = self.missing_for_a_cut();
-        if missing <= away.len() {
-            if !text.is_empty() {
-                text.push(' ');
+        let is_card = |number: &usize| witnesses.word() >> (number - 1) & 1 == 0;
+        let cards: Vec<usize> = away.iter().copied().filter(is_card).collect();
+        let whole = match cards.len() {
+            0 => "a witness box has no readings".to_string(),
+            1 => format!(
+                "cabinet {} ends the wait if it has the reading whole",
+                cards[0]
+            ),
+            _ if cards == away => {
+                "each of them ends the wait if it has the reading whole".to_string()
             }
-            text += &if missing == away.len() {
-                format!(
-                    "If {} never had it the place may be cut.",
-                    match away[..] {
-                        [number] => format!("cabinet {number}"),
-                        _ => format!("{} all say that they", words::cabinets(&away)),
-                    }
-                )
-            } else {
-                format!(
-                    "If {missing} of {} never had it the place may be cut.",
-                    words::cabinets(&away)
-                )
-            };
-        } else {
-            text += " Their saying that they never had it would not be enough for a cut.";
+            _ => format!(
+                "each of {} ends the wait if it has the reading whole",
+                words::cabinets(&cards)
+            ),
+        };
+        let on = words::cabinets(&away);
+        format!(
+            "switch on or make readable {on}: {whole}; {}",
+            self.cut_instead()
+        )
+    }
+
+    /// When the absent would allow a cut.
+    fn cut_instead(&self) -> String {
+        let (missing, away) = (self.missing_for_a_cut(), self.of(Answer::Away).len());
+        match missing {
+            1 if away == 1 => "if it never had it the place is cut".to_string(),
+            missing if missing > away => {
+                "that they never had it would not be enough for a cut".to_string()
+            }
+            missing if missing == away => {
+                "if none of them ever had it the place is cut".to_string()
+            }
+            1 => "if one of them never had it, and none has it whole, the place is cut".to_string(),
+            _ => format!(
+                "if {missing} of them never had it, and none has it whole, the place is cut"
+            ),
         }
-        text
     }
 }
 

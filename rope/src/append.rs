@@ -47,6 +47,7 @@ pub fn command(arguments: &[OsString], out: &mut impl Write) -> Result<Outcome, 
         }
     };
     card.expect_writable()?;
+    card.sync()?;
     card.settle()?;
     card.expect_unchanged()?;
     if !owner.is_witness() {

@@ -171,6 +171,13 @@ impl Card {
         )))
     }
 
+    /// Brings to the disk what a program that was killed had written and not synced: what was read counts as
+    /// stored, so it has to be on the card before the next store.
+    pub fn sync(&self) -> Result<(), Failure> {
+        let cannot_sync = |error| Failure::file(&self.name, "cannot be synced", &error);
+        self.file.sync_data().map_err(cannot_sync)
+    }
+
     /// Finishes an interrupted store, or drops an intent that was not finished.
     pub fn settle(&mut self) -> Result<(), Failure> {
         let path = intent::path_of(&self.path);
@@ -179,13 +186,18 @@ impl Card {
             Leftover::Torn => None,
             Leftover::Whole(intent) => Some(intent.clone()),
         };
-        if let Some(intent) = intent {
-            self.write_synced(&intent.range(), &intent.new)
-                .map_err(|error| self.unfinished(&error))?;
-        }
-        intent::withdraw(&path).map_err(|error| self.unfinished(&error))?;
+        self.finish(&path, intent)
+            .map_err(|error| self.unfinished(&error))?;
         self.leftover = Leftover::Nothing;
         Ok(())
+    }
+
+    fn finish(&mut self, path: &Path, intent: Option<Intent>) -> io::Result<()> {
+        if let Some(intent) = intent {
+            intent::confirm(path)?;
+            self.write_synced(&intent.range(), &intent.new)?;
+        }
+        intent::withdraw(path)
     }
 
     /// Stores a whole entry, which may be torn by a power failure.

@@ -259,7 +259,7 @@ fn shape(line: &Line, given: &[Given]) -> Result<Geometry, Failure> {
         {
             let (n, m, edition) = numbers(&other);
             return Err(Failure::Refused(format!(
-                "the cards are not of one cluster: one says {} cabinets, {} places, edition {}, another \
+                "the cards are not of one fleet: one says {} cabinets, {} places, edition {}, another \
                  {n} cabinets, {m} places, edition {}. Leave out those that do not belong to it, or \
                  give --of, --places and --edition",
                 known.0,

@@ -14,9 +14,11 @@
 //!
 //! - No intent, or one that is not whole. Part 3 had not begun, or part 4 was done: the record is old or new,
 //!   whole in either case. What there is of an intent is dropped.
-//! - A whole intent. Part 3 may have left any mixture of old and new bytes. The new bytes are written again, and
-//!   then part 4 is made. If that is interrupted too, the next start finds the same intent. Writing the same
-//!   bytes twice is writing them once.
+//! - A whole intent. Part 3 may have left any mixture of old and new bytes. The intent is synced, since whoever
+//!   wrote it may have been killed before part 2 was done; the new bytes are written again; and then part 4 is made.
+//!   If that is interrupted too, the next start finds the same intent. Writing the same bytes twice is writing
+//!   them once. So it is with an intent that comes back because the power failed inside part 4: every change of
+//!   its record goes by way of an intent, and there is one file for all, so the record still has the new bytes.
 //! - A whole intent that does not fit the card: another header, or bytes there that are neither old nor new. The
 //!   card is not the one that was left. Nothing is written, and the owner is told.
 //!
@@ -155,6 +157,13 @@ pub fn declare(path: &Path, intent: &Intent) -> io::Result<()> {
     let mut file = OpenOptions::new().write(true).create_new(true).open(path)?;
     file.write_all(&intent.bytes())?;
     file.sync_all()?;
+    sync_folder(path)
+}
+
+/// An intent that is found may not be on the disk yet, if whoever wrote it was killed: it has to be before its
+/// record is written.
+pub fn confirm(path: &Path) -> io::Result<()> {
+    File::open(path)?.sync_all()?;
     sync_folder(path)
 }
 

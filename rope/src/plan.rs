@@ -171,7 +171,7 @@ pub fn action_in_words(
             return String::new();
         };
         let answers = Answers::about(cluster, slot, epoch).in_words();
-        format!("{} at the lead; {answers}", words::verdict(state.verdict))
+        format!("{} at the lead; {answers}", words::short(state.verdict))
     };
     match action {
         PlanAction::Unused => "nothing stands here".to_string(),
@@ -194,21 +194,30 @@ pub fn action_in_words(
 /// Ready, or what it waits for and what would end it.
 fn print_answer(cluster: &Cluster, plan: &Plan, out: &mut impl Write) -> Result<(), Failure> {
     match plan.answer() {
-        PlanAnswer::Ready { length } => writeln!(
-            out,
-            "\nReady: the log will have {}.",
-            words::count(length, "reading")
-        )?,
+        PlanAnswer::Ready { length } => {
+            let readings = words::count(length, "reading");
+            writeln!(out, "\nReady: the log will have {readings}.")?;
+        }
         PlanAnswer::Waiting { slot } => {
             writeln!(out, "\nWaiting for place {slot}: nothing is written.")?;
-            let state = leaders_log(cluster).slot(slot);
-            if let Some(epoch) = state.and_then(|state| state.epoch) {
-                let answers = Answers::about(cluster, slot, epoch);
-                writeln!(out, "{}", answers.end_of_wait(cluster))?;
+            for (slot, text) in waits(cluster, plan) {
+                writeln!(out, "  place {slot}: {text}")?;
             }
         }
     }
     Ok(())
+}
+
+/// The places that wait, each with what would end it.
+pub fn waits(cluster: &Cluster, plan: &Plan) -> Vec<(usize, String)> {
+    let log = leaders_log(cluster);
+    let end_of = |slot: usize| {
+        let epoch = log.slot(slot)?.epoch?;
+        let answers = Answers::about(cluster, slot, epoch);
+        (plan.action(slot)? == PlanAction::Wait)
+            .then(|| (slot, answers.end_of_wait(cluster.geometry.witnesses())))
+    };
+    (1..=log.length()).filter_map(end_of).collect()
 }
 
 /// A card with nothing on it may have been put in for another: its answers would allow a cut.

@@ -20,6 +20,11 @@ pub fn command(arguments: &[OsString], out: &mut impl Write) -> Result<Outcome, 
     let dry_run = line.has("dry-run");
     let access = if dry_run { Access::Read } else { Access::Write };
     let mut cluster = Cluster::of(&line, access)?;
+    if !dry_run {
+        for card in cluster.cards.iter().flatten() {
+            card.sync()?;
+        }
+    }
     let planned = plan(
         &cluster.images,
         cluster.geometry,

@@ -16,6 +16,15 @@ pub fn verdict(verdict: Verdict) -> &'static str {
     }
 }
 
+/// A faulty verdict in one word.
+pub fn short(of: Verdict) -> &'static str {
+    match of {
+        Verdict::Ambiguous => "doubtful",
+        Verdict::Stale => "stale",
+        of => verdict(of),
+    }
+}
+
 /// What a store writes.
 pub fn kind(kind: StoreKind) -> &'static str {
     match kind {
