@@ -16,8 +16,10 @@ pub enum Answer {
     HaveLine,
     /// It never had the reading.
     DontHave,
-    /// It is off or unreadable.
-    Away,
+    /// It is off, or no card of it was given.
+    Off,
+    /// Its card is refused.
+    Unreadable,
 }
 
 /// The answers of all cabinets but the lead, by number.
@@ -47,6 +49,13 @@ impl Answers {
         such.map(|(number, _)| *number).collect()
     }
 
+    /// The cabinets that gave no answer.
+    pub fn absent(&self) -> Vec<usize> {
+        let mut numbers = [self.of(Answer::Off), self.of(Answer::Unreadable)].concat();
+        numbers.sort_unstable();
+        numbers
+    }
+
     /// How many more don't-haves would allow a cut: those that may have held it, the lead and the absent
     /// among them, are then fewer than a majority of all.
     pub fn missing_for_a_cut(&self) -> usize {
@@ -72,19 +81,15 @@ impl Answers {
                 ", witness boxes, have its line",
             ),
             part(Answer::DontHave, "", " never had it", " never had it"),
-            part(
-                Answer::Away,
-                "",
-                " is off or unreadable",
-                " are off or unreadable",
-            ),
+            part(Answer::Off, "", " is off", " are off"),
+            part(Answer::Unreadable, "", " is unreadable", " are unreadable"),
         ];
         parts.into_iter().flatten().collect::<Vec<_>>().join("; ")
     }
 
     /// What would end the wait for a place: who, switched on, and with which answer.
     pub fn end_of_wait(&self, witnesses: ReplicaSet) -> String {
-        let away = self.of(Answer::Away);
+        let away = self.absent();
         if away.is_empty() {
             return "every cabinet has answered and none has the reading whole, but too many may have held it to \
                     cut it; only an older copy of a card can bring it back"
@@ -115,7 +120,7 @@ impl Answers {
 
     /// When the absent would allow a cut.
     fn cut_instead(&self) -> String {
-        let (missing, away) = (self.missing_for_a_cut(), self.of(Answer::Away).len());
+        let (missing, away) = (self.missing_for_a_cut(), self.absent().len());
         match missing {
             1 if away == 1 => "if it never had it the place is cut".to_string(),
             missing if missing > away => {
@@ -134,7 +139,8 @@ impl Answers {
 
 fn answer(cluster: &Cluster, replica: Replica, slot: usize, epoch: Epoch) -> Answer {
     match cluster.seat(replica) {
-        Seat::Off | Seat::NoCard | Seat::Unreadable(_) => Answer::Away,
+        Seat::Off | Seat::NoCard => Answer::Off,
+        Seat::Unreadable(_) => Answer::Unreadable,
         Seat::Witness(log) if log.epoch(slot) == Some(epoch) => Answer::HaveLine,
         Seat::Witness(_) => Answer::DontHave,
         Seat::Card(log) => match log.slot(slot) {

@@ -282,7 +282,8 @@ impl Card {
     fn unfinished(&self, error: &io::Error) -> Failure {
         Failure::Io(format!(
             "{}: a store could not be finished: {error}. Nothing more was written. When the cause is \
-             mended start again: it goes on where it stopped",
+             mended take the card out and put it in again, so that it is read afresh, and start again: \
+             it goes on where it stopped",
             self.name()
         ))
     }

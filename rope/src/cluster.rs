@@ -6,7 +6,7 @@ use ropelog::{
     read, witness_read, Edition, Geometry, Log, Refusal, Replica, ReplicaSet, WitnessLog,
 };
 
-use crate::args::{usage, Line, Options, Takes};
+use crate::args::{usage, CardName, Line, Options, Takes};
 use crate::card::{Access, Card};
 use crate::header::{geometry, Owner};
 use crate::outcome::Failure;
@@ -61,7 +61,13 @@ impl Cluster {
         let Some(lead) = line.number("lead", 1, 7)? else {
             return usage("--lead L is missing: which cabinet leads?".to_string());
         };
-        let mut given = open_all(line, access)?;
+        let off = line.cabinets("off")?;
+        let names: Vec<CardName> = line
+            .cards()?
+            .into_iter()
+            .filter(|name| !name.cabinet.is_some_and(|cabinet| off.contains(&cabinet)))
+            .collect();
+        let mut given = open_all(&names, access)?;
         let geometry = shape(line, &given)?;
         let all = Geometry::new(7, 1).expect("seven cabinets");
         let leader = all.replica(lead as usize).expect("one of seven");
@@ -217,9 +223,9 @@ struct Given {
     card: Option<Card>,
 }
 
-fn open_all(line: &Line, access: Access) -> Result<Vec<Given>, Failure> {
+fn open_all(names: &[CardName], access: Access) -> Result<Vec<Given>, Failure> {
     let mut given: Vec<Given> = Vec::new();
-    for name in line.cards()? {
+    for name in names {
         let card = Card::open(&name.path, access)?;
         let twice = given
             .iter()

@@ -146,7 +146,12 @@ fn print_slots(cluster: &Cluster, plan: &Plan, out: &mut impl Write) -> Result<(
         };
         let epoch = state.epoch.map_or(0, |epoch| epoch.number());
         let text = action_in_words(cluster, slot, state, action);
-        writeln!(out, "  {:>5}  {epoch:>10}  {text}", place(log, slot))?;
+        // What is done, and below it why.
+        let (what, why) = text.split_once(": ").unwrap_or((&text, ""));
+        writeln!(out, "  {:>5}  {epoch:>10}  {what}", place(log, slot))?;
+        if !why.is_empty() {
+            writeln!(out, "{:>21}{why}", "")?;
+        }
     }
     Ok(())
 }
@@ -201,7 +206,12 @@ fn print_answer(cluster: &Cluster, plan: &Plan, out: &mut impl Write) -> Result<
         PlanAnswer::Waiting { slot } => {
             writeln!(out, "\nWaiting for place {slot}: nothing is written.")?;
             for (slot, text) in waits(cluster, plan) {
-                writeln!(out, "  place {slot}: {text}")?;
+                let start = format!("  place {slot}: ");
+                let (who, how) = text.split_once(": ").unwrap_or((&text, ""));
+                writeln!(out, "{start}{who}")?;
+                if !how.is_empty() {
+                    writeln!(out, "{:1$}{how}", "", start.len())?;
+                }
             }
         }
     }

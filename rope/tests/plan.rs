@@ -156,7 +156,9 @@ fn the_words_are_the_plans() {
     for case in 1000..1300 {
         let cards = generated(&mut Rng::new(case), Kinds::Any);
         cards.write(&folder);
-        let (code, text) = called(&folder, &cards, &[]);
+        let numbers = cards.numbers();
+        let numbers: Vec<&str> = numbers.iter().map(String::as_str).collect();
+        let (code, text) = called(&folder, &cards, &numbers);
         let plan = match planned(&cards) {
             Ok(plan) => plan,
             Err(refusal) => {
@@ -197,10 +199,10 @@ fn words_of(action: PlanAction) -> Option<String> {
         PlanAction::Unused => return None,
         PlanAction::Whole => "nothing to do".to_string(),
         PlanAction::RewriteRecord => "write the line anew".to_string(),
-        PlanAction::Wait => "wait: ".to_string(),
-        PlanAction::Truncate => "cut here: ".to_string(),
-        PlanAction::TruncatedAfter => "cut with it: ".to_string(),
-        PlanAction::Fetch(from) => format!("fetch from cabinet {}: ", from.number()),
+        PlanAction::Wait => "wait".to_string(),
+        PlanAction::Truncate => "cut here".to_string(),
+        PlanAction::TruncatedAfter => "cut with it".to_string(),
+        PlanAction::Fetch(from) => format!("fetch from cabinet {}", from.number()),
         _ => panic!("a new action"),
     })
 }
@@ -245,10 +247,10 @@ fn what_would_end_a_wait_ends_it() {
         cards.write(&folder);
         let (_, text) = called(&folder, &cards, &[]);
         let start = format!("  place {slot}: ");
-        let line = text
-            .lines()
-            .find_map(|line| line.strip_prefix(&start))
-            .expect("what ends it");
+        let (_, told) = text.split_once(&start).expect("what ends it");
+        let mut told = told.lines();
+        let (who, how) = (told.next().unwrap(), told.next().unwrap_or(""));
+        let line = &format!("{who}: {}", how.trim_start());
         if away.is_empty() {
             assert!(line.starts_with("every cabinet has answered"), "{line}");
             continue;
@@ -374,10 +376,10 @@ fn who_has_it_who_does_not_and_who_is_off() {
         "  cabinet 1: 3 places used, last epoch 1, leads\n",
         "  cabinet 2: 2 places used, last epoch 1\n",
         "  cabinet 4: off\n",
-        "wait: doubtful at the lead; damaged at cabinet 3 too; cabinet 2 never had it; \
-         cabinets 4 and 5 are off or unreadable\n",
-        "  place 3: switch on or make readable cabinets 4 and 5: each of them ends the wait if it has the \
-         reading whole; if none of them ever had it the place is cut\n",
+        "  wait\n                     doubtful at the lead; damaged at cabinet 3 too; cabinet 2 never had it; \
+         cabinets 4 and 5 are off\n",
+        "  place 3: switch on or make readable cabinets 4 and 5\n           each of them ends the wait if it has \
+         the reading whole; if none of them ever had it the place is cut\n",
     ] {
         assert!(text.contains(words), "{words}\n{text}");
     }

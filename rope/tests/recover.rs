@@ -52,7 +52,7 @@ fn what_is_done_is_said() {
     let (code, said, failure) = recover(&folder, &cards, &["--yes"]);
     assert_eq!((code, &*failure), (Some(0), ""));
     for words in [
-        "fetch from cabinet 2: damaged at the lead; cabinets 2 and 3 have it whole\n",
+        "fetch from cabinet 2\n                     damaged at the lead; cabinets 2 and 3 have it whole\n",
         "Ready: the log will have 3 readings.\n",
         "To be written, 3 stores:\n  cabinet 1: 1 cell\n  cabinet 3: 1 cell, 1 line\n",
         "Recovered: 3 stores made, each on its card before the next; the log has 3 readings.\n",
@@ -66,6 +66,32 @@ fn what_is_done_is_said() {
         said.contains("Nothing is to be written: the cards are recovered."),
         "{said}"
     );
+}
+
+/// On a terminal, which `script` makes, it says how far it is; elsewhere it does not.
+#[test]
+fn a_terminal_sees_how_far_it_is() {
+    let cards = three();
+    let folder = Folder::new();
+    cards.write(&folder);
+    let line = format!("{ROPE} recover {} --yes", cards.arguments().join(" "));
+    let output = Command::new("script")
+        .args(["-qec", &line, "/dev/null"])
+        .current_dir(folder.path())
+        .stdin(Stdio::null())
+        .output()
+        .expect("script starts");
+    assert!(output.status.success(), "{output:?}");
+    let said = stdout(&output);
+    for words in [
+        "\r\u{1b}[Kstore 1 of 3: cabinet 1, place 2, cell",
+        "\r\u{1b}[Kstore 3 of 3: cabinet 3, place 3, line",
+    ] {
+        assert!(said.contains(words), "{said:?}");
+    }
+    cards.write(&folder);
+    let (_, said, failure) = recover(&folder, &cards, &["--yes"]);
+    assert!(!said.contains("store 1 of 3") && failure.is_empty());
 }
 
 #[test]
@@ -152,20 +178,9 @@ fn generated_clusters_end_as_the_proved_run() {
     for case in 5000..5400 {
         let cards = generated(&mut Rng::new(case), Kinds::Any);
         cards.write(&folder);
-        let n = cards.geometry.replica_count().to_string();
-        let m = cards.geometry.slot_count().to_string();
-        let witness: Vec<String> = (1..=cards.images.len())
-            .filter(|&c| {
-                cards
-                    .geometry
-                    .is_witness(cards.geometry.replica(c).unwrap())
-            })
-            .map(|c| format!("--witness={c}"))
-            .collect();
-        let mut more = vec!["--yes", "--of", &n, "--places", &m];
-        more.extend(witness.iter().map(String::as_str));
-        let edition = cards.geometry.edition().number().to_string();
-        more.extend(["--edition", &edition]);
+        let numbers = cards.numbers();
+        let mut more = vec!["--yes"];
+        more.extend(numbers.iter().map(String::as_str));
         let (code, said, failure) = recover(&folder, &cards, &more);
         let leader = cards.geometry.replica(cards.leader).unwrap();
         let planned = plan(
@@ -331,7 +346,7 @@ fn after_a_cut_a_new_epoch_is_asked_for() {
     let (code, said, _) = recover(&folder, &cards, &["--yes"]);
     assert_eq!(code, Some(0));
     assert!(
-        said.contains("cut here: no majority can have held it: doubtful at the lead"),
+        said.contains("no majority can have held it: doubtful at the lead"),
         "{said}"
     );
     assert!(said.contains("append under a new epoch"), "{said}");

@@ -232,6 +232,23 @@ impl Cards {
     }
 }
 
+impl Cards {
+    /// The options that say the numbers, which no header may be left to say.
+    pub fn numbers(&self) -> Vec<String> {
+        let geometry = self.geometry;
+        let mut options = vec![
+            format!("--of={}", geometry.replica_count()),
+            format!("--places={}", geometry.slot_count()),
+            format!("--edition={}", geometry.edition().number()),
+        ];
+        let witnesses = geometry
+            .replicas()
+            .filter(|&replica| geometry.is_witness(replica));
+        options.extend(witnesses.map(|replica| format!("--witness={}", replica.number())));
+        options
+    }
+}
+
 /// Who may be generated.
 #[derive(Clone, Copy, PartialEq, Eq)]
 pub enum Kinds {

@@ -391,21 +391,26 @@ fn an_intent_of_another_card_is_left_alone() {
         assert!(fs::read(folder.file(&name)).unwrap() == image);
         assert!(fs::read(folder.file(&intent)).unwrap() == kept);
     }
-    // A card whose first line is spoilt counts as off: it keeps every byte, and its intent too.
-    let mut spoilt = left;
-    spoilt[..20].fill(b'?');
-    fs::write(folder.file(&name), &spoilt).unwrap();
-    let output = Program::Rope
-        .recover(&cards)
-        .current_dir(folder.path())
-        .output()
-        .unwrap();
-    assert!(
-        matches!(output.status.code(), Some(0 | 3 | 4)),
-        "{output:?}"
-    );
-    assert!(fs::read(folder.file(&name)).unwrap() == spoilt);
-    assert!(fs::read(folder.file(&intent)).unwrap() == kept);
+    // A refused card counts as off: it keeps every byte, and its intent too.
+    let mut headless = left.clone();
+    headless[..20].fill(b'?');
+    let mut both_lost = left;
+    both_lost[cards.geometry.record_range(1)].fill(b'#');
+    both_lost[cards.geometry.entry_range(1)].fill(b'#');
+    for spoilt in [headless, both_lost] {
+        fs::write(folder.file(&name), &spoilt).unwrap();
+        let output = Program::Rope
+            .recover(&cards)
+            .current_dir(folder.path())
+            .output()
+            .unwrap();
+        assert!(
+            matches!(output.status.code(), Some(0 | 3 | 4)),
+            "{output:?}"
+        );
+        assert!(fs::read(folder.file(&name)).unwrap() == spoilt);
+        assert!(fs::read(folder.file(&intent)).unwrap() == kept);
+    }
 }
 
 /// Generated clusters, killed up to three times in a row, each time anywhere.
@@ -597,4 +602,71 @@ fn a_format_killed_at_every_event() {
             }
         }
     }
+}
+
+/// The intent that docs/FORMAT.md shows byte by byte is the one that an append of place 15 leaves if it is killed.
+#[test]
+fn the_intent_of_the_page_is_written() {
+    let page = concat!(env!("CARGO_MANIFEST_DIR"), "/../docs/FORMAT.md");
+    let page = fs::read_to_string(page).unwrap();
+    let (_, block) = page.split_once("```intent\n").expect("an intent");
+    let (block, _) = block.split_once("```").unwrap();
+    let mut shown = Vec::new();
+    for line in block.lines() {
+        let mut words = line.trim_start().splitn(2, ' ');
+        assert_eq!(
+            words.next().unwrap().parse::<usize>().unwrap(),
+            shown.len(),
+            "{line}"
+        );
+        let rest = words.next().unwrap().trim_start();
+        let (length, rest) = rest.split_once(' ').unwrap();
+        let rest = rest.trim_start();
+        let begins = shown.len();
+        if let Some(quoted) = rest.strip_prefix('"') {
+            shown.extend(quoted.split_once('"').unwrap().0.bytes());
+        } else if rest.starts_with("spaces") {
+            shown.extend(vec![b' '; length.parse().unwrap()]);
+        } else {
+            assert!(rest.starts_with("newline"), "{line}");
+            shown.push(b'\n');
+        }
+        assert_eq!(
+            shown.len() - begins,
+            length.parse::<usize>().unwrap(),
+            "{line}"
+        );
+    }
+    assert_eq!(
+        String::from_utf8_lossy(&shown),
+        String::from_utf8_lossy(&intent_of_place_15())
+    );
+}
+
+/// The intent of an append to a card with 14 readings, which is killed when its intent is written.
+fn intent_of_place_15() -> Vec<u8> {
+    let mut cards = Cards::fresh(Geometry::new(3, 16).unwrap(), 1);
+    for _ in 1..15 {
+        cards.append(2, 1, b"metre 1204, wire broken");
+    }
+    let append = || {
+        let mut command = Command::new(ROPE);
+        command.args([
+            "append",
+            "card2.img",
+            "--epoch=1",
+            "--text=metre 1207, no signal",
+        ]);
+        command
+    };
+    let folder = Folder::new();
+    cards.write(&folder);
+    let (_, events) = watched(&folder, append());
+    let made = events
+        .iter()
+        .position(|event| event.kind == "make")
+        .expect("an intent");
+    cards.write(&folder);
+    killed(&folder, append(), made + 1, How::After);
+    fs::read(folder.file("card2.img.intent")).unwrap()
 }
