@@ -231,7 +231,7 @@ pub fn waits(cluster: &Cluster, plan: &Plan) -> Vec<(usize, String)> {
 }
 
 /// A card with nothing on it may have been put in for another: its answers would allow a cut.
-fn print_warnings(cluster: &Cluster, plan: &Plan, out: &mut impl Write) -> Result<(), Failure> {
+pub fn print_warnings(cluster: &Cluster, plan: &Plan, out: &mut impl Write) -> Result<(), Failure> {
     let fresh = cluster.numbers(Seat::is_fresh);
     let cuts = plan.actions().contains(&PlanAction::Truncate);
     if fresh.is_empty() || leaders_log(cluster).length() == 0 {
