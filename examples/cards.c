@@ -31,15 +31,15 @@ enum { BLOCK = 512, WORD_SIZE = 4, NUMBER_SIZE = 11, RECORDS_SIZE = 2 * ROPE_REC
 
 #define INTENT_SIZE(header_size) (WORD_SIZE + (header_size) + NUMBER_SIZE + RECORDS_SIZE + NUMBER_SIZE + 1)
 
-/* What an interrupted store left beside a card: nothing, an intent to drop, one of another card, one to carry out. */
-enum leftover { NOTHING, TORN, FOREIGN, WHOLE };
+/* What an interrupted store left beside a card: nothing, an intent to drop, one of another card, one whose record is torn. */
+enum leftover { NOTHING, DROP, FOREIGN, TORN };
 
 struct card {
     const char *name;
     int fd;
     char intent[PATH_MAX + sizeof ".intent"]; /* beside the card itself, whatever link the name may be */
     enum leftover leftover;
-    uint64_t at; /* of a whole intent, where its record stands */
+    uint64_t at; /* where a torn record stands */
 };
 
 static rope_shape shape = {0, 0, 1, 0};
@@ -144,7 +144,8 @@ static void make_intent(uint8_t *bytes, const uint8_t *header, size_t header_siz
 }
 
 /* What the bytes of an intent's file are to a card. A whole intent has the same bytes when it is made again from its parts; one for a card
- * of edition 2 is whole too. It was left for this card if it has its header, and each byte of the record is the old or the new one. */
+ * of edition 2 is whole too. It was left for this card if it has its header, and each byte of the record is the old or the new one. It is
+ * carried out only if the record is torn: if it is the old one or the new one, the intent is dropped, and a step finds what is left to do. */
 static enum leftover judge(const uint8_t *bytes, size_t size, const uint8_t *image, uint64_t *at) {
     uint8_t again[INTENT_SIZE(ROPE_HEADER_SIZE_2)];
     const uint8_t *header = bytes + WORD_SIZE, *number, *records;
@@ -152,11 +153,11 @@ static enum leftover judge(const uint8_t *bytes, size_t size, const uint8_t *ima
     number = header + header_size;
     records = number + NUMBER_SIZE;
     if (size != (size_t)INTENT_SIZE(header_size) || rope_read_column(number, NUMBER_SIZE, at) != ROPE_COLUMN_NUMBER) {
-        return TORN;
+        return DROP;
     }
     make_intent(again, header, header_size, *at, records);
     if (memcmp(again, bytes, size) != 0) {
-        return TORN;
+        return DROP;
     }
     if (header_size != ROPE_HEADER_SIZE || memcmp(header, image, header_size) != 0 ||
         *at > ROPE_IMAGE_SIZE(shape.m) - ROPE_RECORD_SIZE) {
@@ -167,7 +168,10 @@ static enum leftover judge(const uint8_t *bytes, size_t size, const uint8_t *ima
             return FOREIGN;
         }
     }
-    return WHOLE;
+    if (memcmp(image + *at, records, ROPE_RECORD_SIZE) == 0 || memcmp(image + *at, records + ROPE_RECORD_SIZE, ROPE_RECORD_SIZE) == 0) {
+        return DROP;
+    }
+    return TORN;
 }
 
 /* Looks for an intent and carries it out in the buffer alone: nothing is written before the plan is ready. A card without a good header is
@@ -183,13 +187,12 @@ static void find_leftover(struct card *card, uint8_t *image, size_t replica) {
     }
     fd = open_file(card->intent, O_RDONLY);
     size = read_file(fd, card->intent, bytes, sizeof bytes, 0);
-    sync_file(fd, card->intent); /* whoever left it may have been killed before it was on the disk */
     close_file(fd, card->intent);
-    card->leftover = judge(bytes, size, image, &card->at);
+    card->leftover = size == sizeof bytes ? FOREIGN : judge(bytes, size, image, &card->at); /* an intent is shorter, torn or whole */
     if (card->leftover == FOREIGN) {
         end(FAILED, card->intent, "was left for another card, or the card was changed since. Nothing was written");
     }
-    if (card->leftover == WHOLE) {
+    if (card->leftover == TORN) {
         memcpy(image + card->at, bytes + size - 1 - NUMBER_SIZE - ROPE_RECORD_SIZE, ROPE_RECORD_SIZE);
     }
 }
@@ -209,10 +212,10 @@ static void carry_out(const struct card *card, const uint8_t *image, size_t at) 
 }
 
 static void settle(const struct card *card, const uint8_t *image) {
-    if (card->leftover == WHOLE) {
+    if (card->leftover == TORN) {
         carry_out(card, image, card->at);
-        printf("  %s: an interrupted store was finished\n", card->name);
-    } else if (card->leftover == TORN) {
+        printf("  %s: a torn record was finished\n", card->name);
+    } else if (card->leftover == DROP) {
         remove_intent(card);
     }
 }

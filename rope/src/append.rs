@@ -30,6 +30,7 @@ pub fn command(arguments: &[OsString], out: &mut impl Write) -> Result<Outcome, 
     let epoch = Epoch::new(epoch as u32)?;
     let payload = payload(&line)?;
     let mut card = Card::open(&name.path, Access::Write)?;
+    card.expect_no_other_intent()?;
     let mut image = card.image();
     let owner = owner_of(&card, &image, name.cabinet)?;
     let (geometry, replica) = (owner.geometry, owner.replica);
@@ -48,8 +49,8 @@ pub fn command(arguments: &[OsString], out: &mut impl Write) -> Result<Outcome, 
     };
     card.expect_writable()?;
     card.sync()?;
-    card.settle()?;
     card.expect_unchanged()?;
+    card.settle()?;
     if !owner.is_witness() {
         let entry = geometry.entry_range(slot);
         card.store_entry(&entry, &image[entry.clone()])?;

@@ -27,12 +27,16 @@ pub enum Access {
 /// What an interrupted store left beside the card.
 #[derive(Debug)]
 enum Leftover {
-    /// Nothing, or nothing that is of use now.
+    /// Nothing.
     Nothing,
-    /// An intent that was not finished: it is dropped.
-    Torn,
-    /// An intent whose record is to be written again.
-    Whole(Intent),
+    /// An intent that was not finished, or whose record is whole: it is dropped.
+    Dropped,
+    /// An intent whose record was torn: it is written again.
+    Torn(Intent),
+    /// An intent of a card that cannot be read: it stays for whoever mends the card.
+    Asleep,
+    /// An intent of another card.
+    Foreign,
 }
 
 /// A card file that is open and locked.
@@ -119,27 +123,51 @@ impl Card {
     /// The image as it stands once an interrupted store is finished.
     pub fn image(&self) -> Vec<u8> {
         let mut image = self.on_file.clone();
-        if let Leftover::Whole(intent) = &self.leftover {
+        if let Leftover::Torn(intent) = &self.leftover {
             image[intent.range()].copy_from_slice(&intent.new);
         }
         image
     }
 
-    /// Whether a store was interrupted whose intent is whole.
-    pub fn is_interrupted(&self) -> bool {
-        matches!(self.leftover, Leftover::Whole(_))
+    /// Whether a record was torn that is to be finished.
+    pub fn is_torn(&self) -> bool {
+        matches!(self.leftover, Leftover::Torn(_))
     }
 
     /// Whether an interrupted store left anything that is to be finished or dropped.
     pub fn is_unsettled(&self) -> bool {
-        !matches!(self.leftover, Leftover::Nothing)
+        matches!(self.leftover, Leftover::Torn(_) | Leftover::Dropped)
     }
 
-    /// Whether two cards are one file.
-    pub fn is_same_file(&self, other: &Card) -> bool {
-        match (self.file.metadata(), other.file.metadata()) {
-            (Ok(this), Ok(that)) => is_same(&this, &that),
-            _ => false,
+    /// What is to be told of an intent beside the card, if there is one.
+    pub fn note(&self) -> Option<String> {
+        let intent = intent::path_of(&self.path);
+        let intent = intent.display();
+        match self.leftover {
+            Leftover::Nothing => None,
+            Leftover::Dropped => Some(format!(
+                "a store was interrupted that had not begun, or was done: the next one drops {intent}"
+            )),
+            Leftover::Torn(_) => Some(
+                "a store was interrupted: shown is the card as the next `rope recover` or `rope append` leaves it"
+                    .to_string(),
+            ),
+            Leftover::Asleep => Some(format!("{intent} of an interrupted store stays as it is")),
+            Leftover::Foreign => Some(format!(
+                "{intent} was left by an interrupted store, and this is not the card that it was left \
+                 for, or it was changed since"
+            )),
+        }
+    }
+
+    /// Fails if the intent beside the card is of another one: nothing is written to it then.
+    pub fn expect_no_other_intent(&self) -> Result<(), Failure> {
+        match (&self.leftover, self.note()) {
+            (Leftover::Foreign, Some(note)) => Err(Failure::Io(format!(
+                "{}: {note}. Nothing was written. Put the right card back, or leave this one out",
+                self.name()
+            ))),
+            _ => Ok(()),
         }
     }
 
@@ -178,13 +206,13 @@ impl Card {
         self.file.sync_data().map_err(cannot_sync)
     }
 
-    /// Finishes an interrupted store, or drops an intent that was not finished.
+    /// Finishes a torn store, or drops an intent that is of no use.
     pub fn settle(&mut self) -> Result<(), Failure> {
         let path = intent::path_of(&self.path);
         let intent = match &self.leftover {
-            Leftover::Nothing => return Ok(()),
-            Leftover::Torn => None,
-            Leftover::Whole(intent) => Some(intent.clone()),
+            Leftover::Dropped => None,
+            Leftover::Torn(intent) => Some(intent.clone()),
+            Leftover::Nothing | Leftover::Asleep | Leftover::Foreign => return Ok(()),
         };
         self.finish(&path, intent)
             .map_err(|error| self.unfinished(&error))?;
@@ -194,7 +222,6 @@ impl Card {
 
     fn finish(&mut self, path: &Path, intent: Option<Intent>) -> io::Result<()> {
         if let Some(intent) = intent {
-            intent::confirm(path)?;
             self.write_synced(&intent.range(), &intent.new)?;
         }
         intent::withdraw(path)
@@ -241,9 +268,11 @@ impl Card {
 
     fn write_by_intent(&mut self, range: &Range<usize>, record: &[u8]) -> io::Result<()> {
         let path = intent::path_of(&self.path);
-        intent::declare(&path, &Intent::new(&self.on_file, range, record))?;
+        let of_intent =
+            |error: io::Error| io::Error::new(error.kind(), format!("{}: {error}", path.display()));
+        intent::declare(&path, &Intent::new(&self.on_file, range, record)).map_err(of_intent)?;
         self.write_synced(range, record)?;
-        intent::withdraw(&path)
+        intent::withdraw(&path).map_err(of_intent)
     }
 
     /// One write of these bytes alone, and it is on the disk.
@@ -260,23 +289,22 @@ impl Card {
         let Some(bytes) = intent::read(&path).map_err(cannot_read)? else {
             return Ok(Leftover::Nothing);
         };
-        // A card without a good header is written by nobody: the intent waits for whoever mends it.
+        // A card without a good header is written by nobody.
         if Owner::of(&self.on_file).is_none() {
-            return Ok(Leftover::Nothing);
+            return Ok(Leftover::Asleep);
+        }
+        // An intent is shorter than this, torn or whole.
+        if bytes.len() > intent::LONGEST {
+            return Ok(Leftover::Foreign);
         }
         let Some(intent) = Intent::parse(&bytes) else {
-            return Ok(Leftover::Torn);
+            return Ok(Leftover::Dropped);
         };
-        match intent.fits(&self.on_file) {
-            Fit::Replay => Ok(Leftover::Whole(intent)),
-            Fit::Foreign => Err(Failure::Io(format!(
-                "{}: {} was left by an interrupted store, and this is not the card that it was left for, \
-                 or it was changed since. Nothing was written. Put the right card back, or move that \
-                 file away",
-                self.name(),
-                path.display()
-            ))),
-        }
+        Ok(match intent.fits(&self.on_file) {
+            Fit::Replay => Leftover::Torn(intent),
+            Fit::Done => Leftover::Dropped,
+            Fit::Foreign => Leftover::Foreign,
+        })
     }
 
     fn unfinished(&self, error: &io::Error) -> Failure {

@@ -1,6 +1,8 @@
 //! Several cards as one cluster: whose each is, what shape they have, who is present.
 
 use std::fmt;
+use std::fs;
+use std::os::unix::fs::MetadataExt;
 
 use ropelog::{
     read, witness_read, Edition, Geometry, Log, Refusal, Replica, ReplicaSet, WitnessLog,
@@ -106,8 +108,8 @@ impl Cluster {
             .collect()
     }
 
-    /// The cabinets beside whose cards an interrupted store left something. One that does not answer keeps
-    /// every byte, and what stands beside it.
+    /// The cabinets beside whose cards an interrupted store left something to finish or to drop. One that
+    /// does not answer keeps every byte, and what stands beside it.
     pub fn numbers_to_settle(&self) -> Vec<usize> {
         let numbers = 1..=self.cards.len();
         let unsettled = |number: &usize| {
@@ -224,16 +226,10 @@ struct Given {
 }
 
 fn open_all(names: &[CardName], access: Access) -> Result<Vec<Given>, Failure> {
-    let mut given: Vec<Given> = Vec::new();
+    expect_different(names)?;
+    let mut given = Vec::new();
     for name in names {
         let card = Card::open(&name.path, access)?;
-        let twice = given
-            .iter()
-            .filter_map(|other| other.card.as_ref())
-            .find(|other| other.is_same_file(&card));
-        if let Some(other) = twice {
-            return usage(format!("{} and {} are one file", other.name(), card.name()));
-        }
         given.push(Given {
             cabinet: name.cabinet,
             owner: Owner::of(&card.image()),
@@ -241,6 +237,24 @@ fn open_all(names: &[CardName], access: Access) -> Result<Vec<Given>, Failure> {
         });
     }
     Ok(given)
+}
+
+/// No file is given twice, under whatever names.
+fn expect_different(names: &[CardName]) -> Result<(), Failure> {
+    let mut seen: Vec<((u64, u64), &CardName)> = Vec::new();
+    for name in names {
+        // A file that is not there is told when it is opened.
+        let Ok(found) = fs::metadata(&name.path) else {
+            continue;
+        };
+        let key = (found.dev(), found.ino());
+        if let Some((_, other)) = seen.iter().find(|(other, _)| *other == key) {
+            let (one, two) = (other.path.display(), name.path.display());
+            return usage(format!("{one} and {two} are one file"));
+        }
+        seen.push((key, name));
+    }
+    Ok(())
 }
 
 /// n, m and the edition: those that options give, else those that every readable header has.
@@ -341,6 +355,7 @@ fn seated(
             ));
         }
         if !off.contains(replica) {
+            card.expect_no_other_intent()?;
             cards[replica.number() - 1] = Some(card);
         }
     }

@@ -10,17 +10,19 @@
 //! 3. the record is written to the card;
 //! 4. the intent is removed, and the folder is synced again.
 //!
-//! Why this suffices: wherever it stops, the next start finds one of three things.
+//! Why this suffices: wherever it stops, the next start finds one of these.
 //!
-//! - No intent, or one that is not whole. Part 3 had not begun, or part 4 was done: the record is old or new,
-//!   whole in either case. What there is of an intent is dropped.
-//! - A whole intent. Part 3 may have left any mixture of old and new bytes. The intent is synced, since whoever
-//!   wrote it may have been killed before part 2 was done; the new bytes are written again; and then part 4 is made.
-//!   If that is interrupted too, the next start finds the same intent. Writing the same bytes twice is writing
-//!   them once. So it is with an intent that comes back because the power failed inside part 4: every change of
-//!   its record goes by way of an intent, and there is one file for all, so the record still has the new bytes.
+//! - No intent, or one that is not whole: part 3 had not begun, or had ended. Or a whole one beside a record that
+//!   is the old one or the new one: part 3 wrote nothing, or all. The record is whole, the intent is dropped, and
+//!   what is still to be stored is found out anew.
+//! - A whole intent beside a mixture of the old and the new bytes: part 3 was torn. The new bytes are written again,
+//!   and then part 4 is made. If that is interrupted too, the next start finds the same intent, which was on the
+//!   disk before part 3 began.
 //! - A whole intent that does not fit the card: another header, or bytes there that are neither old nor new. The
 //!   card is not the one that was left. Nothing is written, and the owner is told.
+//!
+//! So an intent changes a card only where a record is torn. One that comes back because the power failed inside
+//! part 4, or that lies beside another copy of its card, finds a whole record and is dropped.
 //!
 //! No other store is made between part 1 and part 4, so the record is the only thing on the card that the intent
 //! has to answer for. A store of a recovery is then a record that is old or new, which is what the proofs suppose.
@@ -40,6 +42,9 @@ const BLOCK: usize = 512;
 
 const WORD: &[u8] = b"todo";
 const NUMBER_LEN: usize = 11;
+
+/// The bytes of the longest intent, that of a card of edition 2.
+pub const LONGEST: usize = WORD.len() + HEADER_LEN_2 + 2 * NUMBER_LEN + 2 * RECORD_LEN + 1;
 
 /// Whether bytes of a file lie in two blocks.
 pub fn straddles(range: &Range<usize>) -> bool {
@@ -62,8 +67,10 @@ pub struct Intent {
 /// What an intent is to a card.
 #[derive(Debug, PartialEq, Eq)]
 pub enum Fit {
-    /// Its record is old, new or a mixture: the new bytes are to be written.
+    /// Its record is a mixture of old and new bytes: the new ones are to be written.
     Replay,
+    /// Its record is the old one or the new one, whole: there is nothing to do.
+    Done,
     /// It is another card, or was changed since.
     Foreign,
 }
@@ -104,8 +111,7 @@ impl Intent {
 
     /// The intent that these bytes are. Judged by writing: any others are none.
     pub fn parse(bytes: &[u8]) -> Option<Intent> {
-        let fixed = WORD.len() + 2 * NUMBER_LEN + 2 * RECORD_LEN + 1;
-        let header_len = bytes.len().checked_sub(fixed)?;
+        let header_len = bytes.len().checked_sub(LONGEST - HEADER_LEN_2)?;
         if ![HEADER_LEN, HEADER_LEN_2].contains(&header_len) {
             return None;
         }
@@ -121,7 +127,16 @@ impl Intent {
             old: old.try_into().ok()?,
             new: rest[..RECORD_LEN].try_into().ok()?,
         };
-        (intent.bytes() == bytes).then_some(intent)
+        (intent.bytes() == bytes && intent.is_of_a_record()).then_some(intent)
+    }
+
+    /// Whether it is of a record of the card that its header names.
+    fn is_of_a_record(&self) -> bool {
+        let Some(owner) = Owner::of(&self.header) else {
+            return false;
+        };
+        let mut slots = 1..=owner.geometry.slot_count();
+        slots.any(|slot| owner.geometry.record_range(slot).start == self.at)
     }
 
     /// What it is to a card: one with its header, on which each byte of the record is its old or its new
@@ -130,11 +145,13 @@ impl Intent {
         let Some(record) = image.get(self.range()) else {
             return Fit::Foreign;
         };
-        let left = |at: usize| record[at] == self.old[at] || record[at] == self.new[at];
-        if image.starts_with(&self.header) && (0..RECORD_LEN).all(left) {
-            Fit::Replay
-        } else {
+        let is_left = |at: usize| record[at] == self.old[at] || record[at] == self.new[at];
+        if !image.starts_with(&self.header) || !(0..RECORD_LEN).all(is_left) {
             Fit::Foreign
+        } else if record == self.old || record == self.new {
+            Fit::Done
+        } else {
+            Fit::Replay
         }
     }
 }
@@ -160,13 +177,6 @@ pub fn declare(path: &Path, intent: &Intent) -> io::Result<()> {
     sync_folder(path)
 }
 
-/// An intent that is found may not be on the disk yet, if whoever wrote it was killed: it has to be before its
-/// record is written.
-pub fn confirm(path: &Path) -> io::Result<()> {
-    File::open(path)?.sync_all()?;
-    sync_folder(path)
-}
-
 /// Part 4: the intent is gone.
 pub fn withdraw(path: &Path) -> io::Result<()> {
     fs::remove_file(path)?;
@@ -181,15 +191,14 @@ pub fn drop_any(card: &Path) -> io::Result<()> {
     }
 }
 
-/// What stands in the intent's file, if there is one. One byte more than an intent has is enough to see
-/// that it is none.
+/// What stands in the intent's file, if there is one: at most one byte more than an intent has.
 pub fn read(path: &Path) -> io::Result<Option<Vec<u8>>> {
     let file = match File::open(path) {
         Err(error) if error.kind() == io::ErrorKind::NotFound => return Ok(None),
         file => file?,
     };
     let mut bytes = Vec::new();
-    file.take(256).read_to_end(&mut bytes)?;
+    file.take(LONGEST as u64 + 1).read_to_end(&mut bytes)?;
     Ok(Some(bytes))
 }
 

@@ -2,11 +2,12 @@
 
 use std::fs;
 use std::io::Write;
+use std::path::Path;
 
 use ropelog::{plan, Log, Plan, PlanAction, PlanAnswer, SlotState};
 
 use crate::answers::Answers;
-use crate::args::{usage, Line, Options, Takes};
+use crate::args::{usage, CardName, Line, Options, Takes};
 use crate::card::Access;
 use crate::cluster::{self, Cluster, Seat};
 use crate::numbers;
@@ -28,6 +29,9 @@ pub fn command(arguments: &[std::ffi::OsString], out: &mut impl Write) -> Result
     if line.has("numbers") && page_file.is_some() {
         return usage("--numbers and --html are two ways to print: take one".to_string());
     }
+    if let Some(file) = &page_file {
+        expect_no_card(Path::new(file), &line.cards()?)?;
+    }
     let cluster = Cluster::of(&line, Access::Read)?;
     let planned = plan(
         &cluster.images,
@@ -42,7 +46,7 @@ pub fn command(arguments: &[std::ffi::OsString], out: &mut impl Write) -> Result
     }
     if let (Some(file), Ok(plan)) = (page_file, &planned) {
         let text = page::page(&cluster, plan);
-        let path = std::path::Path::new(&file);
+        let path = Path::new(&file);
         write_page(path, &text, line.has("over"))?;
         writeln!(out, "\nThe page is {}.", path.display())?;
     }
@@ -52,8 +56,21 @@ pub fn command(arguments: &[std::ffi::OsString], out: &mut impl Write) -> Result
     })
 }
 
+/// The page is none of the cards, whatever it is told to be written over.
+fn expect_no_card(page: &Path, cards: &[CardName]) -> Result<(), Failure> {
+    let Ok(page) = fs::canonicalize(page) else {
+        return Ok(());
+    };
+    for card in cards {
+        if fs::canonicalize(&card.path).is_ok_and(|card| card == page) {
+            return usage(format!("--html {}: that is a card", page.display()));
+        }
+    }
+    Ok(())
+}
+
 /// A page is never written over another file that may be a card: only over a page.
-fn write_page(path: &std::path::Path, text: &str, over: bool) -> Result<(), Failure> {
+fn write_page(path: &Path, text: &str, over: bool) -> Result<(), Failure> {
     let is_page = |bytes: Vec<u8>| bytes.starts_with(page::BEGINNING.as_bytes());
     if path.exists() && !over && !fs::read(path).is_ok_and(is_page) {
         return Err(Failure::Io(format!(
@@ -99,6 +116,7 @@ pub fn print(
         }
     };
     print_slots(cluster, plan, out)?;
+    print_beyond(cluster, plan, out)?;
     print_answer(cluster, plan, out)?;
     print_warnings(cluster, plan, out)
 }
@@ -151,6 +169,36 @@ fn print_slots(cluster: &Cluster, plan: &Plan, out: &mut impl Write) -> Result<(
         writeln!(out, "  {:>5}  {epoch:>10}  {what}", place(log, slot))?;
         if !why.is_empty() {
             writeln!(out, "{:>21}{why}", "")?;
+        }
+    }
+    Ok(())
+}
+
+/// Why a place goes that the lead does not have.
+pub const GOES: &str =
+    "the lead does not have it, and the others are made like the lead: it goes from";
+
+/// The cabinets that answer and have a place which the lead does not have.
+pub fn beyond(cluster: &Cluster, plan: &Plan, slot: usize) -> Vec<usize> {
+    if plan.action(slot) != Some(PlanAction::Unused) {
+        return Vec::new();
+    }
+    cluster.numbers(|seat| match seat {
+        Seat::Card(log) => log.slot(slot).is_some_and(|state| state.epoch.is_some()),
+        Seat::Witness(log) => log.epoch(slot).is_some(),
+        _ => false,
+    })
+}
+
+/// A line for each place that goes because the lead does not have it.
+fn print_beyond(cluster: &Cluster, plan: &Plan, out: &mut impl Write) -> Result<(), Failure> {
+    let log = leaders_log(cluster);
+    for slot in log.length() + 1..=cluster.geometry.slot_count() {
+        let having = beyond(cluster, plan, slot);
+        if !having.is_empty() {
+            let (place, cabinets) = (place(log, slot), words::cabinets(&having));
+            writeln!(out, "  {place:>5}{:>14}not at the lead", "")?;
+            writeln!(out, "{:>21}{GOES} {cabinets}", "")?;
         }
     }
     Ok(())

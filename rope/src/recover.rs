@@ -3,10 +3,10 @@
 use std::ffi::OsString;
 use std::io::{self, BufRead, IsTerminal, Write};
 
-use ropelog::{plan, step, Plan, PlanAction, PlanAnswer, StepAnswer, Store, StoreKind};
+use ropelog::{plan, read, step, Plan, PlanAnswer, StepAnswer, Store, StoreKind, Verdict};
 
 use crate::args::{Line, Options, Takes};
-use crate::card::Access;
+use crate::card::{Access, Card};
 use crate::cluster::{self, Cluster};
 use crate::outcome::{Failure, Outcome};
 use crate::plan::print;
@@ -42,6 +42,7 @@ pub fn command(arguments: &[OsString], out: &mut impl Write) -> Result<Outcome, 
     let interrupted = cluster.numbers_to_settle();
     if stores.is_empty() && interrupted.is_empty() {
         writeln!(out, "\nNothing is to be written: the cards are recovered.")?;
+        print_epoch_rule(&cluster, &stores, out)?;
         return Ok(Outcome::Done);
     }
     print_work(&cluster, &stores, &interrupted, out)?;
@@ -56,6 +57,7 @@ pub fn command(arguments: &[OsString], out: &mut impl Write) -> Result<Outcome, 
     }
     mend(&mut cluster, stores.len(), out)?;
     print_end(&plan, stores.len(), out)?;
+    print_epoch_rule(&cluster, &stores, out)?;
     Ok(Outcome::Done)
 }
 
@@ -101,9 +103,16 @@ fn print_work(
             writeln!(out, "  cabinet {}: {}", replica.number(), parts.join(", "))?;
         }
     }
-    if !interrupted.is_empty() {
-        let list = words::cabinets(interrupted);
-        writeln!(out, "  first, an interrupted store is finished at {list}")?;
+    for &number in interrupted {
+        let is_torn = cluster.cards[number - 1]
+            .as_ref()
+            .is_some_and(Card::is_torn);
+        let what = if is_torn {
+            "a torn line is finished"
+        } else {
+            "an intent of no use is dropped"
+        };
+        writeln!(out, "  cabinet {number}: first, {what}")?;
     }
     Ok(())
 }
@@ -198,10 +207,29 @@ fn print_end(plan: &Plan, stores: usize, out: &mut impl Write) -> Result<(), Fai
         words::count(stores, "store"),
         words::count(length, "reading")
     )?;
-    if plan.actions().contains(&PlanAction::Truncate) {
+    Ok(())
+}
+
+/// A cut leaves cells behind the end of the log. Under an epoch that is used again one could pass for a new reading,
+/// also if the cut was made before an interruption: then the cell at the lead tells it.
+fn print_epoch_rule(
+    cluster: &Cluster,
+    stores: &[Store],
+    out: &mut impl Write,
+) -> Result<(), Failure> {
+    let (geometry, leader) = (cluster.geometry, cluster.leader);
+    let log = read(
+        &cluster.images[geometry.image_range(leader)],
+        geometry,
+        leader,
+    )?;
+    let behind = log.slot(log.length() + 1).map(|state| state.verdict);
+    let is_blanked = |store: &Store| store.kind == StoreKind::BlankRecord;
+    if behind == Some(Verdict::Partial) || stores.iter().any(is_blanked) {
         writeln!(
             out,
-            "Readings were cut: append under a new epoch, one that was never used before."
+            "Cells of readings that were cut still stand behind the log: append under a new epoch, one that was \
+             never used before."
         )?;
     }
     Ok(())

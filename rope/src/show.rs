@@ -110,11 +110,8 @@ fn show(card: &Card, wanted: &Wanted, out: &mut impl Write) -> Result<bool, Fail
         Some(owner) => print_owner(card, &owner, out)?,
         None => writeln!(out, "{}: the first line cannot be read", card.name())?,
     }
-    if card.is_interrupted() {
-        writeln!(
-            out,
-            "  a store was interrupted: shown is the card as the next `rope recover` or `rope append` leaves it"
-        )?;
+    if let Some(note) = card.note() {
+        writeln!(out, "  {note}")?;
     }
     let Some((geometry, replica)) = wanted.meant(owner) else {
         print_refusal(Refusal::Header, out)?;

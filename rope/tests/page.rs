@@ -9,6 +9,7 @@ mod fleet;
 
 use std::fs;
 use std::path::{Path, PathBuf};
+use std::process::Command;
 
 use browser::Browser;
 use examples::Example;
@@ -72,14 +73,27 @@ fn pages_can_be_printed() {
     }
 }
 
-/// The picture of a page in the README: `cargo test --test page -- --ignored picture` makes it anew.
+/// The picture in README.md, of the sample cards. `ROPE_WRITE_PICTURE=1` writes it to docs/plan.png.
 #[test]
-#[ignore = "writes docs/plan.png"]
-fn picture() {
+fn the_picture_of_the_sample_cards() {
+    let package = Path::new(env!("CARGO_MANIFEST_DIR"));
+    let page = scratch("picture.html");
+    let cards = (1..=5).map(|number| format!("card{number}.img"));
+    let output = Command::new(env!("CARGO_BIN_EXE_rope"))
+        .arg("plan")
+        .args(cards)
+        .args(["--lead", "1", "--off", "5", "--html"])
+        .arg(&page)
+        .current_dir(package.join("cards"))
+        .output()
+        .expect("the program starts");
+    assert!(output.status.success(), "{output:?}");
+    let png = match std::env::var_os("ROPE_WRITE_PICTURE") {
+        Some(_) => package.join("../docs/plan.png"),
+        None => scratch("plan.png"),
+    };
     let browser = Browser::find(&scratch("browser-picture"));
-    let example = examples::waiting("picture");
-    let png = Path::new(env!("CARGO_MANIFEST_DIR")).join("../docs/plan.png");
-    browser.picture(&example.page, &png, 1000, 490);
+    browser.picture(&page, &png, 1000, 560);
     let bytes = fs::read(&png).expect("a picture");
     assert!(bytes.starts_with(b"\x89PNG"), "{}", png.display());
 }

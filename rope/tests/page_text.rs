@@ -63,20 +63,22 @@ fn every_tag_is_ended_in_order() {
 #[test]
 fn every_printed_reason_stands_on_the_page() {
     let doing = [
-        "fetch from",
-        "write the line",
-        "wait: ",
-        "cut here",
-        "cut with it",
+        "  fetch from",
+        "  write the line",
+        "  wait",
+        "  cut here",
+        "  cut with it",
     ];
     for example in examples::all("text-reasons") {
         let page = text(&example);
         let mut found = 0;
-        for line in example.said.lines() {
+        let lines: Vec<&str> = example.said.lines().collect();
+        for (line, why) in lines.iter().zip(&lines[1..]) {
             let Some(at) = doing.iter().find_map(|doing| line.find(doing)) else {
                 continue;
             };
-            assert!(page.contains(&format!(": {}.</li>", &line[at..])), "{line}");
+            let reason = format!(": {}: {}.</li>", line[at..].trim(), why.trim());
+            assert!(page.contains(&reason), "{reason}");
             found += 1;
         }
         let done = [

@@ -357,11 +357,20 @@ fn after_a_cut_a_new_epoch_is_asked_for() {
 fn an_intent_that_is_not_whole_is_dropped() {
     let cards = three();
     let folder = Folder::new();
-    for text in [&b"torn"[..], b"", &[b' '; 1000]] {
+    for text in [&b"torn"[..], b"", &[b' '; 134]] {
         cards.write(&folder);
         fs::write(folder.file("card1.img.intent"), text).unwrap();
         let (ended, said, failure) = recover(&folder, &cards, &["--yes"]);
         assert_eq!(ended, Some(0), "{said}{failure}");
         assert!(cards.read(&folder) == cards.recovered().unwrap().0.images);
     }
+    // A file that is longer than any intent is somebody's: it stays, and nothing is written.
+    cards.write(&folder);
+    fs::write(folder.file("card1.img.intent"), [b' '; 135]).unwrap();
+    let (ended, _, failure) = recover(&folder, &cards, &["--yes"]);
+    assert_eq!(ended, Some(1));
+    assert!(failure.contains("leave this one out"), "{failure}");
+    assert!(folder.file("card1.img.intent").exists());
+    fs::remove_file(folder.file("card1.img.intent")).unwrap();
+    assert!(cards.read(&folder) == cards.images);
 }

@@ -130,6 +130,10 @@ fn wrong_calls_end_with_2_and_say_what_was_expected() {
             &["plan", card, "--lead=1", "--numbers", "--html=x"],
             "take one",
         ),
+        (
+            &["plan", card, "--lead=1", "--html=card1.img", "--over"],
+            "that is a card",
+        ),
         (&["append", card], "--epoch E is missing"),
         (
             &["append", card, "--epoch", "0", "--text", "x"],

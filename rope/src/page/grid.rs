@@ -42,20 +42,6 @@ fn shown(cluster: &Cluster) -> usize {
     }
 }
 
-/// The cabinets that have a place which the lead does not have. Since they are made like the lead it goes
-/// from them.
-pub fn beyond(cluster: &Cluster, plan: &Plan, slot: usize) -> Vec<usize> {
-    if plan.action(slot) != Some(PlanAction::Unused) {
-        return Vec::new();
-    }
-    let has = |replica: &Replica| {
-        let (_, epoch) = Kind::at(cluster, *replica, slot);
-        epoch.is_some()
-    };
-    let all = cluster.geometry.replicas().filter(has);
-    all.map(|replica| replica.number()).collect()
-}
-
 /// One row for all places behind those that are shown.
 fn rest(cluster: &Cluster, shown: usize) -> String {
     let slots = cluster.geometry.slot_count();
@@ -100,7 +86,7 @@ fn tag(seat: &Seat) -> &'static str {
 
 fn row(cluster: &Cluster, plan: &Plan, slot: usize) -> String {
     let action = plan.action(slot).unwrap_or(PlanAction::Unused);
-    let (class, words) = in_short(action, !beyond(cluster, plan, slot).is_empty());
+    let (class, words) = in_short(action, !crate::plan::beyond(cluster, plan, slot).is_empty());
     let cells: String = cluster
         .geometry
         .replicas()

@@ -2,10 +2,9 @@
 
 use ropelog::{payload, Epoch, Log, Plan, PlanAction, Replica, SlotState};
 
-use super::grid;
 use super::html::escaped;
 use crate::cluster::{Cluster, Seat};
-use crate::plan::{action_in_words, leaders_log};
+use crate::plan::{action_in_words, beyond, leaders_log, GOES};
 use crate::words;
 
 /// Why, for every place where something is done.
@@ -26,11 +25,10 @@ pub fn reasons(cluster: &Cluster, plan: &Plan) -> String {
     };
     let mut items: String = (1..=log.length()).filter_map(item).collect();
     for slot in log.length() + 1..=cluster.geometry.slot_count() {
-        let having = grid::beyond(cluster, plan, slot);
+        let having = beyond(cluster, plan, slot);
         if !having.is_empty() {
             items += &format!(
-                "<li><b>Place {slot}</b>{}: the lead does not have it, and the others are made like the \
-                 lead: it goes from {}.</li>\n",
+                "<li><b>Place {slot}</b>{}: {GOES} {}.</li>\n",
                 reading(log, slot),
                 words::cabinets(&having)
             );
