@@ -2,7 +2,8 @@
 
 use ropelog::{Epoch, Replica, ReplicaSet};
 
-use crate::cluster::{Cluster, Seat};
+use crate::cluster::Cluster;
+use crate::seat::Seat;
 use crate::words;
 
 /// What a cabinet answers about a place, or why it does not.

@@ -4,15 +4,16 @@ use std::fs;
 use std::io::Write;
 use std::path::Path;
 
-use ropelog::{plan, Log, Plan, PlanAction, PlanAnswer, SlotState};
+use ropelog::{Log, Plan, PlanAction, PlanAnswer, SlotState};
 
 use crate::answers::Answers;
 use crate::args::{usage, CardName, Line, Options, Takes};
 use crate::card::Access;
-use crate::cluster::{self, Cluster, Seat};
+use crate::cluster::{self, Cluster};
 use crate::numbers;
 use crate::outcome::{Failure, Outcome};
 use crate::page;
+use crate::seat::Seat;
 use crate::words;
 
 /// The options of the command, beside those of a cluster.
@@ -33,12 +34,7 @@ pub fn command(arguments: &[std::ffi::OsString], out: &mut impl Write) -> Result
         expect_no_card(Path::new(file), &line.cards()?)?;
     }
     let cluster = Cluster::of(&line, Access::Read)?;
-    let planned = plan(
-        &cluster.images,
-        cluster.geometry,
-        cluster.leader,
-        cluster.present,
-    );
+    let planned = cluster.plan();
     if line.has("numbers") {
         numbers::print(&cluster, &planned, out)?;
     } else {

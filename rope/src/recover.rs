@@ -3,136 +3,64 @@
 use std::ffi::OsString;
 use std::io::{self, BufRead, IsTerminal, Write};
 
-use ropelog::{plan, read, step, Plan, PlanAnswer, StepAnswer, Store, StoreKind, Verdict};
+use ropelog::{read, step, PlanAnswer, StepAnswer, Store, StoreKind, Verdict};
 
 use crate::args::{Line, Options, Takes};
-use crate::card::{Access, Card};
+use crate::card::Access;
 use crate::cluster::{self, Cluster};
 use crate::outcome::{Failure, Outcome};
 use crate::plan::print;
+use crate::progress::Progress;
 use crate::words;
+use crate::work::Work;
 
 const OPTIONS: Options = &[("dry-run", Takes::Nothing), ("yes", Takes::Nothing)];
 
 /// The command.
 pub fn command(arguments: &[OsString], out: &mut impl Write) -> Result<Outcome, Failure> {
     let line = Line::parse(arguments, &[cluster::OPTIONS, OPTIONS])?;
-    let dry_run = line.has("dry-run");
-    let access = if dry_run { Access::Read } else { Access::Write };
-    let mut cluster = Cluster::of(&line, access)?;
-    if !dry_run {
-        for card in cluster.cards.iter().flatten() {
-            card.sync()?;
-        }
-    }
-    let planned = plan(
-        &cluster.images,
-        cluster.geometry,
-        cluster.leader,
-        cluster.present,
-    );
+    let is_dry = line.has("dry-run");
+    let mut cluster = opened(&line, is_dry)?;
+    let planned = cluster.plan();
     print(&cluster, &planned, out)?;
     let Ok(plan) = planned else {
         return Ok(Outcome::Refused);
     };
-    if let PlanAnswer::Waiting { .. } = plan.answer() {
+    let PlanAnswer::Ready { length } = plan.answer() else {
         return Ok(Outcome::Waiting);
-    }
-    let stores = outstanding(&cluster)?;
-    let interrupted = cluster.numbers_to_settle();
-    if stores.is_empty() && interrupted.is_empty() {
+    };
+    let work = Work::of(&cluster)?;
+    if work.is_empty() {
         writeln!(out, "\nNothing is to be written: the cards are recovered.")?;
-        print_epoch_rule(&cluster, &stores, out)?;
+        print_epoch_rule(&cluster, &work, out)?;
         return Ok(Outcome::Done);
     }
-    print_work(&cluster, &stores, &interrupted, out)?;
-    if dry_run {
+    work.print(&cluster, out)?;
+    if is_dry {
         writeln!(out, "\nA dry run: nothing was written.")?;
         return Ok(Outcome::Done);
     }
-    expect_writable(&cluster, &stores, &interrupted)?;
+    work.expect_writable(&cluster)?;
     if !line.has("yes") && !is_confirmed(out)? {
         writeln!(out, "Nothing was written.")?;
         return Ok(Outcome::Declined);
     }
-    mend(&mut cluster, stores.len(), out)?;
-    print_end(&plan, stores.len(), out)?;
-    print_epoch_rule(&cluster, &stores, out)?;
+    mend(&mut cluster, work.stores.len(), out)?;
+    print_end(length, work.stores.len(), out)?;
+    print_epoch_rule(&cluster, &work, out)?;
     Ok(Outcome::Done)
 }
 
-/// The stores that are outstanding, found out on a copy in memory.
-fn outstanding(cluster: &Cluster) -> Result<Vec<Store>, Failure> {
-    let mut copy = cluster.images.clone();
-    let mut stores = Vec::new();
-    while let StepAnswer::Stored(store) =
-        step(&mut copy, cluster.geometry, cluster.leader, cluster.present)?
-    {
-        stores.push(store);
+/// The cards, alone and with all that was ever written to them on the disk, unless they are only looked at.
+fn opened(line: &Line, is_dry: bool) -> Result<Cluster, Failure> {
+    if is_dry {
+        return Cluster::of(line, Access::Read);
     }
-    Ok(stores)
-}
-
-/// What will be written to which cabinet.
-fn print_work(
-    cluster: &Cluster,
-    stores: &[Store],
-    interrupted: &[usize],
-    out: &mut impl Write,
-) -> Result<(), Failure> {
-    writeln!(
-        out,
-        "\nTo be written, {}:",
-        words::count(stores.len(), "store")
-    )?;
-    for replica in cluster.geometry.replicas() {
-        let of = |kind: StoreKind| {
-            let such = |store: &&Store| store.replica == replica && store.kind == kind;
-            stores.iter().filter(such).count()
-        };
-        let parts: Vec<String> = [
-            (of(StoreKind::BlankRecord), "line blanked", "lines blanked"),
-            (of(StoreKind::Entry), "cell", "cells"),
-            (of(StoreKind::Record), "line", "lines"),
-        ]
-        .into_iter()
-        .filter(|(number, _, _)| *number > 0)
-        .map(|(number, one, more)| format!("{number} {}", if number == 1 { one } else { more }))
-        .collect();
-        if !parts.is_empty() {
-            writeln!(out, "  cabinet {}: {}", replica.number(), parts.join(", "))?;
-        }
+    let cluster = Cluster::of(line, Access::Write)?;
+    for card in cluster.cards.iter().flatten() {
+        card.sync()?;
     }
-    for &number in interrupted {
-        let is_torn = cluster.cards[number - 1]
-            .as_ref()
-            .is_some_and(Card::is_torn);
-        let what = if is_torn {
-            "a torn line is finished"
-        } else {
-            "an intent of no use is dropped"
-        };
-        writeln!(out, "  cabinet {number}: first, {what}")?;
-    }
-    Ok(())
-}
-
-/// Before the first store every card that is to be written can be.
-fn expect_writable(
-    cluster: &Cluster,
-    stores: &[Store],
-    interrupted: &[usize],
-) -> Result<(), Failure> {
-    for (at, card) in cluster.cards.iter().enumerate() {
-        let number = at + 1;
-        let is_written = stores.iter().any(|store| store.replica.number() == number);
-        if let Some(card) = card {
-            if is_written || interrupted.contains(&number) {
-                card.expect_writable()?;
-            }
-        }
-    }
-    Ok(())
+    Ok(cluster)
 }
 
 /// Anything but yes is no.
@@ -197,10 +125,7 @@ fn next_store(cluster: &mut Cluster) -> Result<Option<Store>, Failure> {
     Ok(Some(store))
 }
 
-fn print_end(plan: &Plan, stores: usize, out: &mut impl Write) -> Result<(), Failure> {
-    let PlanAnswer::Ready { length } = plan.answer() else {
-        return Ok(());
-    };
+fn print_end(length: usize, stores: usize, out: &mut impl Write) -> Result<(), Failure> {
     writeln!(
         out,
         "\nRecovered: {} made, each on its card before the next; the log has {}.",
@@ -212,11 +137,7 @@ fn print_end(plan: &Plan, stores: usize, out: &mut impl Write) -> Result<(), Fai
 
 /// A cut leaves cells behind the end of the log. Under an epoch that is used again one could pass for a new reading,
 /// also if the cut was made before an interruption: then the cell at the lead tells it.
-fn print_epoch_rule(
-    cluster: &Cluster,
-    stores: &[Store],
-    out: &mut impl Write,
-) -> Result<(), Failure> {
+fn print_epoch_rule(cluster: &Cluster, work: &Work, out: &mut impl Write) -> Result<(), Failure> {
     let (geometry, leader) = (cluster.geometry, cluster.leader);
     let log = read(
         &cluster.images[geometry.image_range(leader)],
@@ -224,8 +145,7 @@ fn print_epoch_rule(
         leader,
     )?;
     let behind = log.slot(log.length() + 1).map(|state| state.verdict);
-    let is_blanked = |store: &Store| store.kind == StoreKind::BlankRecord;
-    if behind == Some(Verdict::Partial) || stores.iter().any(is_blanked) {
+    if behind == Some(Verdict::Partial) || work.cuts() {
         writeln!(
             out,
             "Cells of readings that were cut still stand behind the log: append under a new epoch, one that was \
@@ -233,39 +153,4 @@ fn print_epoch_rule(
         )?;
     }
     Ok(())
-}
-
-/// The line on a terminal that says how far it is.
-struct Progress {
-    total: usize,
-    is_shown: bool,
-}
-
-impl Progress {
-    fn new(total: usize) -> Progress {
-        Progress {
-            total,
-            is_shown: io::stderr().is_terminal(),
-        }
-    }
-
-    /// A line that cannot be shown is no reason to stop.
-    fn tell(&self, made: usize, store: Store) {
-        if self.is_shown {
-            let _ = write!(
-                io::stderr(),
-                "\r\x1b[Kstore {made} of {}: cabinet {}, place {}, {}",
-                self.total,
-                store.replica.number(),
-                store.slot,
-                words::kind(store.kind)
-            );
-        }
-    }
-
-    fn end(&self) {
-        if self.is_shown {
-            let _ = writeln!(io::stderr());
-        }
-    }
 }

@@ -3,14 +3,14 @@
 use std::ffi::OsString;
 use std::io::Write;
 
-use ropelog::pieces::{judge_entry, judge_record, payload_range, Entry, Record};
 use ropelog::{payload, read, witness_read, Edition, Geometry, Log, Refusal, Replica, ReplicaSet};
-use ropelog::{Verdict, WitnessLog, ENTRY_LEN, RECORD_LEN};
+use ropelog::{Verdict, WitnessLog};
 
 use crate::args::{usage, CardName, Line, Options, Takes};
 use crate::card::{Access, Card};
 use crate::header::{geometry, Owner};
 use crate::outcome::{Failure, Outcome};
+use crate::pieces;
 use crate::words;
 
 const OPTIONS: Options = &[
@@ -131,18 +131,33 @@ fn show(card: &Card, wanted: &Wanted, out: &mut impl Write) -> Result<bool, Fail
         )?;
         return Ok(false);
     }
-    let shown = if geometry.is_witness(replica) {
-        witness_read(&image, geometry, replica).map(|log| print_witness(&log, out))
-    } else {
-        read(&image, geometry, replica).map(|log| print_log(&image, geometry, replica, &log, out))
-    };
-    match shown {
-        Ok(printed) => printed.map(|()| true),
+    match print_places(&image, geometry, replica, out)? {
+        Ok(()) => Ok(true),
         Err(refusal) => {
             print_refusal(refusal, out)?;
             let first = owner.map(|owner| owner.first).or(wanted.first);
-            print_pieces(&image, geometry, replica, first, out)?;
+            pieces::print(&image, geometry, replica, first, out)?;
             Ok(false)
+        }
+    }
+}
+
+/// The places of a card or a box, unless it is refused.
+fn print_places(
+    image: &[u8],
+    geometry: Geometry,
+    replica: Replica,
+    out: &mut impl Write,
+) -> Result<Result<(), Refusal>, Failure> {
+    if geometry.is_witness(replica) {
+        match witness_read(image, geometry, replica) {
+            Ok(log) => print_witness(&log, out).map(Ok),
+            Err(refusal) => Ok(Err(refusal)),
+        }
+    } else {
+        match read(image, geometry, replica) {
+            Ok(log) => print_log(image, geometry, replica, &log, out).map(Ok),
+            Err(refusal) => Ok(Err(refusal)),
         }
     }
 }
@@ -268,60 +283,4 @@ fn print_place(
     let epoch = epoch.map_or(String::new(), |epoch| epoch.to_string());
     writeln!(out, "  {slot:>5}{reading}  {epoch:>10}  {text}")?;
     Ok(())
-}
-
-/// What stands on a refused card, piece by piece: for the eyes alone, no verdict and no plan uses it.
-fn print_pieces(
-    image: &[u8],
-    geometry: Geometry,
-    replica: Replica,
-    first: Option<u32>,
-    out: &mut impl Write,
-) -> Result<(), Failure> {
-    let Some(first) = first.or((geometry.edition() == Edition::One).then_some(1)) else {
-        writeln!(
-            out,
-            "  to see what still stands on it say with which number its log begins: --first F"
-        )?;
-        return Ok(());
-    };
-    writeln!(
-        out,
-        "  what stands on it, piece by piece (no plan uses it):"
-    )?;
-    for slot in 1..=geometry.slot_count() {
-        let Some(index) = first.checked_add(slot as u32 - 1) else {
-            break;
-        };
-        let line = record_in_words(&image[geometry.record_range(slot)], index);
-        let cell = if geometry.is_witness(replica) {
-            String::new()
-        } else {
-            entry_in_words(&image[geometry.entry_range(slot)], index)
-        };
-        writeln!(out, "  {slot:>5}  line {line}{cell}")?;
-    }
-    Ok(())
-}
-
-fn record_in_words(record: &[u8], index: u32) -> String {
-    let record: &[u8; RECORD_LEN] = record.try_into().expect("a record");
-    match judge_record(record, index) {
-        Record::Good { epoch } => format!("good, epoch {epoch}"),
-        Record::Blank => "empty".to_string(),
-        Record::Bad => "lost".to_string(),
-    }
-}
-
-fn entry_in_words(entry: &[u8], index: u32) -> String {
-    let entry: &[u8; ENTRY_LEN] = entry.try_into().expect("an entry");
-    match judge_entry(entry, index) {
-        Entry::Intact { epoch, size } => format!(
-            "; cell whole, epoch {epoch}, {}: {}",
-            words::count(size, "byte"),
-            words::piece(&entry[payload_range(size)])
-        ),
-        Entry::Broken if entry.iter().all(|&byte| byte == b' ') => "; cell empty".to_string(),
-        Entry::Broken => "; cell lost".to_string(),
-    }
 }

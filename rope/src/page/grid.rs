@@ -4,8 +4,9 @@ use ropelog::{Plan, PlanAction, Replica};
 
 use super::kind::Kind;
 use super::signs;
-use crate::cluster::{Cluster, Seat};
+use crate::cluster::Cluster;
 use crate::plan::leaders_log;
+use crate::seat::Seat;
 
 /// The grid as a table.
 pub fn grid(cluster: &Cluster, plan: &Plan) -> String {

@@ -2,7 +2,8 @@
 
 use ropelog::{Epoch, Replica, Verdict};
 
-use crate::cluster::{Cluster, Seat};
+use crate::cluster::Cluster;
+use crate::seat::Seat;
 
 /// What stands at a place of a cabinet.
 #[derive(Clone, Copy, Debug, PartialEq, Eq)]

@@ -4,7 +4,8 @@ use ropelog::{Plan, PlanAction};
 
 use super::kind::Kind;
 use super::signs;
-use crate::cluster::{Cluster, Seat};
+use crate::cluster::Cluster;
+use crate::seat::Seat;
 
 /// The legend.
 pub fn legend(cluster: &Cluster, plan: &Plan) -> String {

@@ -3,8 +3,9 @@
 use ropelog::{payload, Epoch, Log, Plan, PlanAction, Replica, SlotState};
 
 use super::html::escaped;
-use crate::cluster::{Cluster, Seat};
+use crate::cluster::Cluster;
 use crate::plan::{action_in_words, beyond, leaders_log, GOES};
+use crate::seat::Seat;
 use crate::words;
 
 /// Why, for every place where something is done.
