@@ -22,6 +22,16 @@ pub enum Takes {
 /// The options that a command has, without the dashes.
 pub type Options = &'static [(&'static str, Takes)];
 
+/// The options that say whose card one card is.
+pub const ONE_CARD: Options = &[
+    ("cabinet", Takes::One),
+    ("of", Takes::One),
+    ("places", Takes::One),
+    ("edition", Takes::One),
+    ("first", Takes::One),
+    ("witness", Takes::Nothing),
+];
+
 /// A card file, with its cabinet if `C=FILE` names it.
 #[derive(Clone, Debug)]
 pub struct CardName {

@@ -5,25 +5,17 @@ use std::io::Write;
 
 use ropelog::{format_from, Edition, Geometry, Replica, ReplicaSet};
 
-use crate::args::{usage, Line, Options, Takes};
+use crate::args::{usage, Line, Options, Takes, ONE_CARD};
 use crate::card::Card;
 use crate::header::geometry;
 use crate::outcome::{Failure, Outcome};
 use crate::words;
 
-const OPTIONS: Options = &[
-    ("cabinet", Takes::One),
-    ("of", Takes::One),
-    ("places", Takes::One),
-    ("edition", Takes::One),
-    ("first", Takes::One),
-    ("witness", Takes::Nothing),
-    ("over", Takes::Nothing),
-];
+const OPTIONS: Options = &[("over", Takes::Nothing)];
 
 /// The command.
 pub fn command(arguments: &[OsString], out: &mut impl Write) -> Result<Outcome, Failure> {
-    let line = Line::parse(arguments, &[OPTIONS])?;
+    let line = Line::parse(arguments, &[ONE_CARD, OPTIONS])?;
     let name = line.card()?;
     let (geometry, replica) = meant(&line, name.cabinet)?;
     let first = line.number("first", 0, u32::MAX.into())?.unwrap_or(1) as u32;

@@ -161,6 +161,8 @@ pub fn seated(
         }
         if !off.contains(replica) {
             given.card.expect_no_other_intent()?;
+            let note = given.card.note();
+            notes.extend(note.map(|note| format!("{}: {note}.", given.card.name())));
             *place = Some(given.card);
         }
     }

@@ -6,25 +6,16 @@ use std::io::Write;
 use ropelog::{payload, read, witness_read, Edition, Geometry, Log, Refusal, Replica, ReplicaSet};
 use ropelog::{Verdict, WitnessLog};
 
-use crate::args::{usage, CardName, Line, Options, Takes};
+use crate::args::{usage, CardName, Line, ONE_CARD};
 use crate::card::{Access, Card};
 use crate::header::{geometry, Owner};
 use crate::outcome::{Failure, Outcome};
 use crate::pieces;
 use crate::words;
 
-const OPTIONS: Options = &[
-    ("cabinet", Takes::One),
-    ("of", Takes::One),
-    ("places", Takes::One),
-    ("edition", Takes::One),
-    ("first", Takes::One),
-    ("witness", Takes::Nothing),
-];
-
 /// The command. A card that cannot be opened does not keep the others from being shown.
 pub fn command(arguments: &[OsString], out: &mut impl Write) -> Result<Outcome, Failure> {
-    let line = Line::parse(arguments, &[OPTIONS])?;
+    let line = Line::parse(arguments, &[ONE_CARD])?;
     let names = line.cards()?;
     let wanted = Wanted::of(&line)?;
     if line.has("cabinet") && names.len() > 1 {

@@ -141,12 +141,9 @@ pub fn count(number: usize, word: &str) -> String {
     format!("{number} {word}{ending}")
 }
 
-/// "edition 2, first 1205": where the log begins is said where it can begin anywhere.
+/// "edition 2, first 1205": how the image is laid out, and the number of its first reading.
 pub fn edition(edition: Edition, first: u32) -> String {
-    match edition {
-        Edition::One => "edition 1".to_string(),
-        edition => format!("edition {}, first {first}", edition.number()),
-    }
+    format!("edition {}, first {first}", edition.number())
 }
 
 /// The most characters that are shown of a reading.

@@ -44,7 +44,7 @@ fn a_card_in_words() {
     assert_eq!(code, Some(0));
     assert_eq!(
         text,
-        "card1.img: the card of cabinet 1 of 3, 4 places, edition 1\n  \
+        "card1.img: the card of cabinet 1 of 3, 4 places, edition 1, first 1\n  \
          3 of 4 places used\n  \
          place       epoch  verdict, bytes and reading\n      \
          1           1  whole, its line is lost, 23 bytes: metre 1204, wire broken\n      \
