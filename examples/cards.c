@@ -9,10 +9,10 @@
  *
  * Records 15, 30, 45 and 60 lie in two blocks of 512 bytes, and a power failure may leave the new bytes in one of them alone. So such a
  * record is announced first, in the file FILE.intent: the card's header, where the record stands, its old and its new bytes, a checksum.
- * The intent is on the disk before the record is touched, and is removed when the record is on the disk. A whole intent that is found at
- * the start is therefore carried out, and one that is not whole is dropped: its record was not touched. The program `rope` of the folder
- * rope/ takes the same lock and writes the same intents, so each of the two finishes what the other has left. Whoever else writes to a
- * card has to take the lock, and to carry out an intent before anything else. */
+ * The intent is on the disk before the record is touched, and is removed when the record is on the disk. So beside a torn record there is a
+ * whole intent, which is carried out at the next start; any other intent is dropped, since its record is the old one or the new one. The
+ * program `rope` of the folder rope/ takes the same lock and writes the same intents, so each of the two finishes what the other has left.
+ * Whoever else writes to a card has to take the lock, and to carry out an intent before anything else. */
 #define _DEFAULT_SOURCE /* for flock and realpath */
 #include <errno.h>
 #include <fcntl.h>
