@@ -2,11 +2,26 @@
 
 use std::io::Write;
 
-use ropelog::{Plan, PlanAnswer, Refusal};
+use ropelog::{Edition, Plan, PlanAnswer, Refusal, ReplicaSet};
 
 use crate::cluster::Cluster;
 use crate::outcome::Failure;
 use crate::plan::leaders_log;
+
+/// The most bytes that the printing program reads: a line of 14 and the cards.
+const MAX_INPUT: usize = 65_536;
+const COMMAND_LEN: usize = 14;
+
+/// The plan as the printing program makes it: cards of edition 1 without witnesses that are more than it reads are
+/// refused by 3, before all else. Of others it knows nothing.
+pub fn limited(cluster: &Cluster, planned: Result<Plan, Refusal>) -> Result<Plan, Refusal> {
+    let geometry = cluster.geometry;
+    let is_known = geometry.edition() == Edition::One && geometry.witnesses() == ReplicaSet::EMPTY;
+    if is_known && COMMAND_LEN + geometry.cluster_len() > MAX_INPUT {
+        return Err(Refusal::BufferLength);
+    }
+    planned
+}
 
 /// Prints the plan or its refusal, in the printing program's columns.
 pub fn print(

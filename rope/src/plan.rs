@@ -34,8 +34,9 @@ pub fn command(arguments: &[std::ffi::OsString], out: &mut impl Write) -> Result
         expect_no_card(Path::new(file), &line.cards()?)?;
     }
     let cluster = Cluster::of(&line, Access::Read)?;
-    let planned = cluster.plan();
+    let mut planned = cluster.plan();
     if line.has("numbers") {
+        planned = numbers::limited(&cluster, planned);
         numbers::print(&cluster, &planned, out)?;
     } else {
         print(&cluster, &planned, out)?;
@@ -257,6 +258,10 @@ fn print_answer(cluster: &Cluster, plan: &Plan, out: &mut impl Write) -> Result<
                     writeln!(out, "{:1$}{how}", "", start.len())?;
                 }
             }
+            writeln!(
+                out,
+                "Until then leave all cards as they are, and format nothing."
+            )?;
         }
     }
     Ok(())
