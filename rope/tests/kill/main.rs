@@ -15,8 +15,8 @@ mod stores;
 use std::fs;
 use std::thread;
 
-use common::{generated, stderr, Cards, Folder, Kinds, Rng};
-use program::{failed, killed, watched, Event, How, Program};
+use common::{card_name, generated, stderr, Cards, Folder, Kinds, Rng};
+use program::{failed, killed, stopped, watched, Event, How, Program};
 use scene::{has_intents, killed_once, parts, scene, uninterrupted};
 
 /// Every event of a recovery, before, inside and after. Answers the number of kills.
@@ -81,6 +81,35 @@ fn a_failing_disk_at_every_event() {
             let (output, _) = watched(&folder, program.recover(&cards));
             assert!(output.status.success(), "{at}: {output:?}");
             assert!(cards.read(&folder) == expected, "{at}");
+        }
+    }
+}
+
+/// Somebody else writes to a card in the middle of a recovery: it stops before its next store, what they wrote stays,
+/// and nothing else is stored.
+#[test]
+fn a_card_that_is_changed_in_the_middle() {
+    let (cards, folder) = (scene(), Folder::new());
+    let (_, events) = uninterrupted(&folder, &cards, Program::Rope);
+    let syncs = (cards.present.len()..events.len()).filter(|&at| events[at].kind == "sync");
+    for at in syncs {
+        for number in 1..=3 {
+            cards.write(&folder);
+            let file = folder.file(&card_name(number));
+            let output = stopped(&folder, Program::Rope.recover(&cards), at, || {
+                let mut bytes = fs::read(&file).unwrap();
+                *bytes.last_mut().unwrap() ^= 1;
+                fs::write(&file, bytes).unwrap();
+            });
+            assert_eq!(output.status.code(), Some(1), "{at}: {output:?}");
+            let words = format!(
+                "{}: was changed by somebody else meanwhile",
+                card_name(number)
+            );
+            assert!(stderr(&output).contains(&words), "{at}: {output:?}");
+            let left = fs::read(&file).unwrap();
+            let before = &cards.images[number - 1];
+            assert!(left.last() != before.last(), "{at}: it was written over");
         }
     }
 }

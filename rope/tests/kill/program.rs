@@ -5,6 +5,8 @@ use std::os::unix::process::ExitStatusExt;
 use std::path::{Path, PathBuf};
 use std::process::{Command, Output, Stdio};
 use std::sync::OnceLock;
+use std::thread;
+use std::time::Duration;
 
 use crate::common::{card_name, Cards, Folder, ROPE};
 
@@ -140,6 +142,32 @@ pub fn failed(folder: &Folder, mut command: Command, at: usize, error: i32) -> O
         .stdin(Stdio::null())
         .output()
         .expect("the program starts")
+}
+
+/// Runs a program in a folder, stops it before an event, counted from 0, does something meanwhile, and lets it go on.
+pub fn stopped(folder: &Folder, mut command: Command, at: usize, meanwhile: impl Fn()) -> Output {
+    let child = command
+        .current_dir(folder.path())
+        .env("LD_PRELOAD", shim())
+        .env("KILL_AT", format!("{}:stop:0", at + 1))
+        .stdin(Stdio::null())
+        .stdout(Stdio::piped())
+        .stderr(Stdio::piped())
+        .spawn()
+        .expect("the program starts");
+    let state = format!("/proc/{}/stat", child.id());
+    let is_stopped = || {
+        let text = fs::read_to_string(&state).expect("the program runs");
+        text.rsplit_once(") ").expect("a state").1.starts_with('T')
+    };
+    while !is_stopped() {
+        thread::sleep(Duration::from_millis(1));
+    }
+    meanwhile();
+    let id = child.id().to_string();
+    let status = Command::new("kill").args(["-CONT", &id]).status();
+    assert!(status.expect("kill starts").success());
+    child.wait_with_output().expect("the program ends")
 }
 
 /// Runs a program in a folder and kills it at an event, counted from 0. The system says that it was killed.

@@ -3,6 +3,7 @@
  * KILL_AT=K:HOW:J names event K, from 1, and how: "before" or "after" the call, or "inside" it. Inside a write its first J bytes arrive.
  * Inside a sync the power fails: of what was written last the first J bytes are the old ones again, and a file that was made or
  * removed since the last sync of its folder is gone or back.
+ * With "stop" it is stopped before the call and goes on when it is told to.
  * With "fail" it is not killed: the call fails, and J is its errno.
  * KILL_LOG=FILE gets a line for each event: its kind, the offset and the length of a write, and the file's name. */
 #define _GNU_SOURCE
@@ -104,6 +105,10 @@ static enum how event(const char *kind, const char *file, long at, long length, 
     }
     if (strcmp(word, "before") == 0) {
         die();
+    }
+    if (strcmp(word, "stop") == 0) {
+        raise(SIGSTOP);
+        return NEVER;
     }
     if (strcmp(word, "fail") == 0) {
         errno = (int)*part;
