@@ -66,7 +66,7 @@ typedef char rope_needs_64_bit_sizes[sizeof(size_t) == 8 ? 1 : -1];
 
 /* CHANGELOG.md says what a version promises. */
 #define ROPE_VERSION_MAJOR 7
-#define ROPE_VERSION_MINOR 0
+#define ROPE_VERSION_MINOR 1
 #define ROPE_VERSION_PATCH 0
 #define ROPE_VERSION "7.1.0"
 
