@@ -17,7 +17,7 @@ use std::thread;
 
 use common::{card_name, generated, stderr, Cards, Folder, Kinds, Rng};
 use program::{failed, killed, stopped, watched, Event, How, Program};
-use scene::{has_intents, killed_once, parts, scene, uninterrupted};
+use scene::{cut_scene, has_intents, killed_once, parts, scene, uninterrupted};
 
 /// Every event of a recovery, before, inside and after. Answers the number of kills.
 fn killed_at_every_event(cards: &Cards, programs: [Program; 2]) -> usize {
@@ -41,27 +41,30 @@ fn killed_at_every_event(cards: &Cards, programs: [Program; 2]) -> usize {
 
 #[test]
 fn killed_at_every_event_of_a_recovery() {
-    let cards = scene();
-    let (_, events) = uninterrupted(&Folder::new(), &cards, Program::Rope);
-    assert!(has_intents(&events), "{events:?}");
-    let kills = killed_at_every_event(&cards, [Program::Rope; 2]);
-    assert!(kills >= 200, "{kills}");
+    for cards in [scene(), cut_scene()] {
+        let (_, events) = uninterrupted(&Folder::new(), &cards, Program::Rope);
+        assert!(has_intents(&events), "{events:?}");
+        let kills = killed_at_every_event(&cards, [Program::Rope; 2]);
+        assert!(kills >= 2 * events.len(), "{kills}");
+    }
 }
 
 #[test]
 fn the_c_program_killed_at_every_event() {
-    let cards = scene();
-    let (_, events) = uninterrupted(&Folder::new(), &cards, Program::CardsC);
-    assert!(has_intents(&events), "{events:?}");
-    killed_at_every_event(&cards, [Program::CardsC; 2]);
+    for cards in [scene(), cut_scene()] {
+        let (_, events) = uninterrupted(&Folder::new(), &cards, Program::CardsC);
+        assert!(has_intents(&events), "{events:?}");
+        killed_at_every_event(&cards, [Program::CardsC; 2]);
+    }
 }
 
 /// What one program was interrupted at the other one finishes.
 #[test]
 fn killed_and_gone_on_with_by_the_other_program() {
-    let cards = scene();
-    killed_at_every_event(&cards, [Program::Rope, Program::CardsC]);
-    killed_at_every_event(&cards, [Program::CardsC, Program::Rope]);
+    for cards in [scene(), cut_scene()] {
+        killed_at_every_event(&cards, [Program::Rope, Program::CardsC]);
+        killed_at_every_event(&cards, [Program::CardsC, Program::Rope]);
+    }
 }
 
 /// A call of the system that fails ends the program with 1 and a message, and the next start finishes the work.
@@ -118,33 +121,32 @@ fn a_card_that_is_changed_in_the_middle() {
 /// before it; one record in two blocks likewise, and its intent.
 #[test]
 fn torn_at_every_byte_boundary() {
-    let cards = scene();
+    let first = |events: &[Event], length: usize| {
+        let mut numbers = 0..events.len();
+        numbers.find(|&at| events[at].length == length)
+    };
+    torn_at_every_byte(&scene(), |events| first(events, 240).expect("an entry"));
+    torn_at_every_byte(&cut_scene(), |events| {
+        first(events, 123).expect("an intent")
+    });
+    torn_at_every_byte(&cut_scene(), |events| {
+        let intent = first(events, 123).expect("an intent");
+        intent + first(&events[intent..], 34).expect("its record")
+    });
+}
+
+/// The write that is picked and the sync behind it, torn at every byte.
+fn torn_at_every_byte(cards: &Cards, pick: impl Fn(&[Event]) -> usize) {
     let folder = Folder::new();
-    let (expected, events) = uninterrupted(&folder, &cards, Program::Rope);
-    let first = |such: &dyn Fn(&Event) -> bool| events.iter().position(such).expect("an event");
-    let entry = first(&|event| event.length == 240);
-    let made = first(&|event| event.kind == "make");
-    let record = made
-        + events[made..]
-            .iter()
-            .position(|event| event.length == 34)
-            .expect("a record by way of an intent");
-    for at in [entry, made + 1, record] {
-        assert_eq!(
-            (&*events[at].kind, &*events[at + 1].kind),
-            ("write", "sync")
-        );
-        for event in [at, at + 1] {
-            for part in 0..=events[at].length {
-                killed_once(
-                    &folder,
-                    &cards,
-                    [Program::Rope; 2],
-                    event,
-                    How::Inside(part),
-                );
-                assert!(cards.read(&folder) == expected, "{event} {part}");
-            }
+    let (expected, events) = uninterrupted(&folder, cards, Program::Rope);
+    let at = pick(&events);
+    let kinds = (&*events[at].kind, &*events[at + 1].kind);
+    assert_eq!(kinds, ("write", "sync"));
+    for event in [at, at + 1] {
+        for part in 0..=events[at].length {
+            let how = How::Inside(part);
+            killed_once(&folder, cards, [Program::Rope; 2], event, how);
+            assert!(cards.read(&folder) == expected, "{event} {part}");
         }
     }
 }

@@ -34,6 +34,21 @@ pub fn scene() -> Cards {
     cards
 }
 
+/// The lead's place 15 is damaged and nobody else has it, so its line is blanked beside a cell that is no reading. Torn
+/// there, it would make the whole card unreadable.
+pub fn cut_scene() -> Cards {
+    let mut cards = Cards::fresh(Geometry::new(3, 16).unwrap(), 1);
+    for number in 1..=3 {
+        for _ in 1..=14 {
+            cards.append(number, 1, b"metre 1204, wire broken");
+        }
+    }
+    cards.append(1, 1, b"metre 1223, wire broken");
+    cards.append(1, 1, b"metre 1225, no signal");
+    cards.spoil_entry(1, 15);
+    cards
+}
+
 /// The cards in a folder, recovered without an interruption; what was done on the way.
 pub fn uninterrupted(
     folder: &Folder,
