@@ -23,6 +23,14 @@ pub enum Answer {
     Unreadable,
 }
 
+/// What would end a wait: who is to be switched on, and what their answers decide.
+pub struct EndOfWait {
+    /// Whom it waits for.
+    pub who: String,
+    /// With which answers it ends.
+    pub how: String,
+}
+
 /// The answers of all cabinets but the lead, by number.
 pub struct Answers {
     replicas: usize,
@@ -88,13 +96,15 @@ impl Answers {
         parts.into_iter().flatten().collect::<Vec<_>>().join("; ")
     }
 
-    /// What would end the wait for a place: who, switched on, and with which answer.
-    pub fn end_of_wait(&self, witnesses: ReplicaSet) -> String {
+    /// What would end the wait for a place.
+    pub fn end_of_wait(&self, witnesses: ReplicaSet) -> EndOfWait {
         let away = self.absent();
         if away.is_empty() {
-            return "every cabinet has answered and none has the reading whole, but too many may have held it to \
-                    cut it; only an older copy of a card can bring it back"
-                .to_string();
+            return EndOfWait {
+                who: "every cabinet has answered and none has the reading whole".to_string(),
+                how: "too many may have held it to cut it; only an older copy of a card can bring it back"
+                    .to_string(),
+            };
         }
         let is_card = |number: &usize| witnesses.word() >> (number - 1) & 1 == 0;
         let cards: Vec<usize> = away.iter().copied().filter(is_card).collect();
@@ -112,11 +122,10 @@ impl Answers {
                 words::cabinets(&cards)
             ),
         };
-        let on = words::cabinets(&away);
-        format!(
-            "switch on or make readable {on}: {whole}; {}",
-            self.cut_instead()
-        )
+        EndOfWait {
+            who: format!("switch on or make readable {}", words::cabinets(&away)),
+            how: format!("{whole}; {}", self.cut_instead()),
+        }
     }
 
     /// When the absent would allow a cut.

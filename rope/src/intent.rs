@@ -13,8 +13,8 @@
 //! Why this suffices: wherever it stops, the next start finds one of these.
 //!
 //! - No intent, or one that is not whole: part 3 had not begun, or had ended. Or a whole one beside a record that
-//!   is the old one or the new one: part 3 wrote nothing, or all. The record is whole, the intent is dropped, and
-//!   what is still to be stored is found out anew.
+//!   is the old one or the new one: part 3 wrote nothing, or all. The record is whole, also on the disk, since a
+//!   start syncs the card first. The intent is dropped, and what is still to be stored is found out anew.
 //! - A whole intent beside a mixture of the old and the new bytes: part 3 was torn. The new bytes are written again,
 //!   and then part 4 is made. If that is interrupted too, the next start finds the same intent, which was on the
 //!   disk before part 3 began.

@@ -77,7 +77,7 @@ fn below(cluster: &Cluster, plan: &Plan) -> String {
         PlanAnswer::Ready { .. } => vec![done(plan)],
         PlanAnswer::Waiting { .. } => waits
             .iter()
-            .map(|(slot, end)| format!("Place {slot}: {end}."))
+            .map(|(slot, end)| format!("Place {slot}: {}: {}.", end.who, end.how))
             .collect(),
     };
     let paragraph = |line: &String| format!("<p>{}</p>\n", escaped(line));

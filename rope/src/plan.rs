@@ -6,7 +6,7 @@ use std::path::Path;
 
 use ropelog::{Log, Plan, PlanAction, PlanAnswer, SlotState};
 
-use crate::answers::Answers;
+use crate::answers::{Answers, EndOfWait};
 use crate::args::{usage, CardName, Line, Options, Takes};
 use crate::card::Access;
 use crate::cluster::{self, Cluster};
@@ -160,9 +160,7 @@ fn print_slots(cluster: &Cluster, plan: &Plan, out: &mut impl Write) -> Result<(
             continue;
         };
         let epoch = state.epoch.map_or(0, |epoch| epoch.number());
-        let text = action_in_words(cluster, slot, state, action);
-        // What is done, and below it why.
-        let (what, why) = text.split_once(": ").unwrap_or((&text, ""));
+        let (what, why) = action_in_words(cluster, slot, state, action);
         writeln!(out, "  {:>5}  {epoch:>10}  {what}", place(log, slot))?;
         if !why.is_empty() {
             writeln!(out, "{:>21}{why}", "")?;
@@ -209,13 +207,13 @@ fn place(log: &Log, slot: usize) -> String {
     }
 }
 
-/// What is done about a place, and why.
+/// What is done about a place, and why if there is more to say.
 pub fn action_in_words(
     cluster: &Cluster,
     slot: usize,
     state: SlotState,
     action: PlanAction,
-) -> String {
+) -> (String, String) {
     let because = || {
         let Some(epoch) = state.epoch else {
             return String::new();
@@ -223,22 +221,28 @@ pub fn action_in_words(
         let answers = Answers::about(cluster, slot, epoch).in_words();
         format!("{} at the lead; {answers}", words::short(state.verdict))
     };
-    match action {
-        PlanAction::Unused => "nothing stands here".to_string(),
-        PlanAction::Whole => "nothing to do".to_string(),
-        PlanAction::RewriteRecord => {
-            "write the line anew from the cell: the line is lost, the reading is whole".to_string()
+    let (what, why) = match action {
+        PlanAction::Unused => ("nothing stands here", String::new()),
+        PlanAction::Whole => ("nothing to do", String::new()),
+        PlanAction::RewriteRecord => (
+            "write the line anew from the cell",
+            "the line is lost, the reading is whole".to_string(),
+        ),
+        PlanAction::Wait => ("wait", because()),
+        PlanAction::Truncate => (
+            "cut here",
+            format!("no majority can have held it: {}", because()),
+        ),
+        PlanAction::TruncatedAfter => (
+            "cut with it",
+            "it stands behind the place that is cut".to_string(),
+        ),
+        PlanAction::Fetch(from) => {
+            return (format!("fetch from cabinet {}", from.number()), because());
         }
-        PlanAction::Wait => format!("wait: {}", because()),
-        PlanAction::Truncate => {
-            format!("cut here: no majority can have held it: {}", because())
-        }
-        PlanAction::TruncatedAfter => {
-            "cut with it: it stands behind the place that is cut".to_string()
-        }
-        PlanAction::Fetch(from) => format!("fetch from cabinet {}: {}", from.number(), because()),
-        _ => "an action that this program does not know".to_string(),
-    }
+        _ => ("an action that this program does not know", String::new()),
+    };
+    (what.to_string(), why)
 }
 
 /// Ready, or what it waits for and what would end it.
@@ -250,13 +254,10 @@ fn print_answer(cluster: &Cluster, plan: &Plan, out: &mut impl Write) -> Result<
         }
         PlanAnswer::Waiting { slot } => {
             writeln!(out, "\nWaiting for place {slot}: nothing is written.")?;
-            for (slot, text) in waits(cluster, plan) {
+            for (slot, end) in waits(cluster, plan) {
                 let start = format!("  place {slot}: ");
-                let (who, how) = text.split_once(": ").unwrap_or((&text, ""));
-                writeln!(out, "{start}{who}")?;
-                if !how.is_empty() {
-                    writeln!(out, "{:1$}{how}", "", start.len())?;
-                }
+                writeln!(out, "{start}{}", end.who)?;
+                writeln!(out, "{:1$}{2}", "", start.len(), end.how)?;
             }
             writeln!(
                 out,
@@ -268,7 +269,7 @@ fn print_answer(cluster: &Cluster, plan: &Plan, out: &mut impl Write) -> Result<
 }
 
 /// The places that wait, each with what would end it.
-pub fn waits(cluster: &Cluster, plan: &Plan) -> Vec<(usize, String)> {
+pub fn waits(cluster: &Cluster, plan: &Plan) -> Vec<(usize, EndOfWait)> {
     let log = leaders_log(cluster);
     let end_of = |slot: usize| {
         let epoch = log.slot(slot)?.epoch?;

@@ -136,7 +136,8 @@ fn print_end(length: usize, stores: usize, out: &mut impl Write) -> Result<(), F
 }
 
 /// A cut leaves cells behind the end of the log. Under an epoch that is used again one could pass for a new reading,
-/// also if the cut was made before an interruption: then the cell at the lead tells it.
+/// also if the cut was made before an interruption: then the cell at the lead tells it, as one of a write that was
+/// cut short does.
 fn print_epoch_rule(cluster: &Cluster, work: &Work, out: &mut impl Write) -> Result<(), Failure> {
     let (geometry, leader) = (cluster.geometry, cluster.leader);
     let log = read(
@@ -148,7 +149,7 @@ fn print_epoch_rule(cluster: &Cluster, work: &Work, out: &mut impl Write) -> Res
     if behind == Some(Verdict::Partial) || work.cuts() {
         writeln!(
             out,
-            "Cells of readings that were cut still stand behind the log: append under a new epoch, one that was \
+            "Behind the log stand cells that were cut off or never finished: append under a new epoch, one that was \
              never used before."
         )?;
     }

@@ -16,12 +16,12 @@ pub fn reasons(cluster: &Cluster, plan: &Plan) -> String {
         if matches!(action, PlanAction::Unused | PlanAction::Whole) {
             return None;
         }
-        let words = action_in_words(cluster, slot, state, action);
+        let (what, why) = action_in_words(cluster, slot, state, action);
         Some(format!(
             "<li><b>Place {slot}</b>{}{}: {}.</li>\n",
             reading(log, slot),
             epoch_of(state),
-            escaped(&words)
+            escaped(&format!("{what}: {why}"))
         ))
     };
     let mut items: String = (1..=log.length()).filter_map(item).collect();

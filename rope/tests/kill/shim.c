@@ -249,14 +249,7 @@ int open(const char *path, int flags, ...) {
     return make(path, flags, mode);
 }
 
-int open64(const char *path, int flags, ...) {
-    va_list rest;
-    int mode;
-    va_start(rest, flags);
-    mode = mode_of(flags, rest);
-    va_end(rest);
-    return make(path, flags, mode);
-}
+int open64(const char *path, int flags, ...) __attribute__((alias("open")));
 
 int unlink(const char *path) {
     long part = 0;
