@@ -9,7 +9,7 @@ use vet::named_refusal;
 
 // A number of bytes and the refusal 0; or 0 and the refusal, for what is out of range.
 #[repr(C)]
-#[derive(Drop)]
+#[derive(Clone, Copy)]
 pub struct Measure {
     pub value: usize,
     pub refusal: u8,

@@ -19,7 +19,7 @@ pub const LINE_SIZE: usize = 20;
 pub const PAGE_SIZE: usize = HEADING_SIZE + LINE_SIZE * MAX_SLOTS;
 
 // The first line of a plan: n, the leader's number, the status and the answer's number.
-#[derive(Drop)]
+#[derive(Clone, Copy)]
 pub struct Heading {
     pub n: usize,
     pub leading: usize,

@@ -8,7 +8,7 @@ use image::{MAX_REPLICAS, MAX_SLOTS};
 pub mod action; // action.rt: the plan's bytes
 
 // Ready with the final length, waiting with the number of the lowest waiting slot, or the refusal.
-#[derive(Drop)]
+#[derive(Clone, Copy)]
 pub enum PlanAnswer {
     Ready(usize),
     Waiting(usize),
@@ -17,7 +17,7 @@ pub enum PlanAnswer {
 
 // A replica's row in the planner's table: whether it is readable and present, and if so its log's length and last epoch.
 #[repr(C)]
-#[derive(Drop)]
+#[derive(Clone, Copy)]
 pub struct ReplicaRow {
     pub readable: u8,
     pub length: u32,
@@ -29,7 +29,7 @@ pub const SURVEY_SLOTS: usize = 448;
 
 // The readable set; and for each readable replica the index of its first slot, the length of its log, and the condition's number and the
 // epoch of each slot. Slot k of replica c stands at c * MAX_SLOTS + k.
-#[derive(Drop)]
+#[derive(Clone, Copy)]
 pub struct Survey {
     pub readable: u32,
     pub firsts: [u32; MAX_REPLICAS],

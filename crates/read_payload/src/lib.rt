@@ -17,7 +17,7 @@ use view_open::open_card;
 use view_slot::{entry_state, is_whole};
 
 // Where a payload stands in the image.
-#[derive(Drop)]
+#[derive(Clone, Copy)]
 pub struct Span {
     pub start: usize,
     pub end: usize,

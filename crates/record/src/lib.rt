@@ -5,7 +5,7 @@ ghost use Rattle.record.specs.Claims.{Exact, EditionOne, RoundTrip, ChangedPaylo
 // What a call names of its cluster: n replicas of m slots each, all of one edition, and the set of those that are witnesses. A header of
 // edition 2 gives the index of the first slot.
 #[repr(C)]
-#[derive(Drop)]
+#[derive(Clone, Copy)]
 pub struct Shape {
     pub n: usize,
     pub m: usize,

@@ -6,7 +6,7 @@ pub mod kind; // kind.rt: the kinds of a store by number
 
 // The first store still outstanding, if there is one: an entry copied from the donor's, a record, or a record blanked, at slot k of
 // replica c. All three count from 0.
-#[derive(Drop)]
+#[derive(Clone, Copy)]
 pub enum NextStore {
     Nothing,
     Entry { c: usize, k: usize, donor: usize },

@@ -2,7 +2,7 @@
 ghost use Rattle.std.specs.Prelude.{◌≡◌, ◌+◌, ◌*◌, ◌-◌, ◌<◌, ◌≤◌, length, get_or};
 ghost use Rattle.sum.specs.Rows.{row_at, alone, added, total_of, weighted_of};
 
-#[derive(Drop)]
+#[derive(Clone, Copy)]
 pub struct Eight {
     p0: u32,
     p1: u32,

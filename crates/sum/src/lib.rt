@@ -11,7 +11,7 @@ const CHUNK: usize = 2048;
 const SHORT: usize = 32;
 
 // The two running sums.
-#[derive(Drop)]
+#[derive(Clone, Copy)]
 struct Sums {
     a: u32,
     b: u32,

@@ -10,7 +10,7 @@ use survey_sets::contains;
 use view::last_epoch;
 
 // What the planner found: its answer, how many rows there are to fill (none if it refused), and the rows.
-#[derive(Drop)]
+#[derive(Clone, Copy)]
 pub struct PlanOutcome {
     pub answer: PlanAnswer,
     pub count: usize,

@@ -11,7 +11,7 @@ use locate::{ENTRY_SIZE, RECORD_SIZE, entry_at, index_of, is_witness, record_at}
 use record::{EntryState, RecordState, Shape};
 
 // One slot as its scan sees it: its condition's number and its epoch.
-#[derive(Drop)]
+#[derive(Clone, Copy)]
 pub struct Slot {
     pub condition: u8,
     pub epoch: u32,
