@@ -1,0 +1,42 @@
+use Rattle.call_clusters.proofs.ClusterCallLaws.{run_answered}
+use mathlib.Core.Path.{refl}
+use native.Mathlib.Omega.{arith}
+use Rattle.call_clusters.proofs.runs.run.Goals as goal
+
+pub run_spec : {M : Type 1} → statement M
+run_spec =
+    tie.close
+    (tie.spec
+    run-cluster-requires
+    enum-known-made
+    enum-known-spent
+    enum-known-waiting
+    enum-known-refusal
+    same_length
+    returns
+    same-length-2
+    returns-2
+    same-length-3
+    returns-3
+    same-length-4
+    returns-4)
+
+pub returns-in-Recovered : goal.returns-in-Recovered
+returns-in-Recovered c =
+    let e = c.run_cluster.ensures in
+    run_answered _ _ _ _ _ c.in-Recovered.is e.0 e.1 _ _ _ refl (omega arith) (omega arith) refl
+
+pub returns-in-Spent : goal.returns-in-Spent
+returns-in-Spent c =
+    let e = c.run_cluster.ensures in
+    run_answered _ _ _ _ _ c.in-Spent.is e.0 e.1 _ _ _ refl (omega arith) (omega arith) refl
+
+pub returns-in-Waiting : goal.returns-in-Waiting
+returns-in-Waiting c =
+    let e = c.run_cluster.ensures in
+    run_answered _ _ _ _ _ c.in-Waiting.is e.0 e.1 _ _ _ refl (omega arith) (omega arith) (omega arith)
+
+pub returns-in-Refused : goal.returns-in-Refused
+returns-in-Refused c =
+    let e = c.run_cluster.ensures in
+    run_answered _ _ _ _ _ c.in-Refused.is e.0 e.1 _ _ _ (omega arith) refl refl refl

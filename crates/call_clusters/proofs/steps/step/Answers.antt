@@ -1,0 +1,42 @@
+use Rattle.call_clusters.proofs.ClusterCallLaws.{step_answered}
+use mathlib.Core.Path.{refl}
+use native.Mathlib.Omega.{arith}
+use Rattle.call_clusters.proofs.steps.step.Goals as goal
+
+pub step_spec : {M : Type 1} → statement M
+step_spec =
+    tie.close
+    (tie.spec
+    step-cluster-requires
+    enum-known-on
+    enum_told
+    enum-known-waiting
+    enum-known-refusal
+    same_length
+    returns
+    same-length-2
+    returns-2
+    same-length-3
+    returns-3
+    same-length-4
+    returns-4)
+
+pub returns-in-Stored : goal.returns-in-Stored
+returns-in-Stored c =
+    let e = c.step_cluster.ensures in
+    step_answered _ _ _ _ _ c.in-Stored.is e.0 e.1 _ _ _ _ refl (omega arith) (omega arith) (omega arith) (omega arith)
+
+pub returns-in-Recovered : goal.returns-in-Recovered
+returns-in-Recovered c =
+    let e = c.step_cluster.ensures in
+    step_answered _ _ _ _ _ c.in-Recovered.is e.0 e.1 _ _ _ _ refl refl refl refl refl
+
+pub returns-in-Waiting : goal.returns-in-Waiting
+returns-in-Waiting c =
+    let e = c.step_cluster.ensures in
+    step_answered _ _ _ _ _ c.in-Waiting.is e.0 e.1 _ _ _ _ refl (omega arith) refl (omega arith) refl
+
+pub returns-in-Refused : goal.returns-in-Refused
+returns-in-Refused c =
+    let e = c.step_cluster.ensures in
+    step_answered _ _ _ _ _ c.in-Refused.is e.0 e.1 _ _ _ _ (omega arith) refl refl refl refl

@@ -1,0 +1,15 @@
+use Rattle.call_images.proofs.ImageCallLaws.{append_done, append_refused}
+use mathlib.Core.Path.{sym, ap, ◌∙◌}
+use Rattle.image.specs.Answers.{append_numbers}
+use native.Mathlib.Omega.{arith}
+use Rattle.call_witnesses.proofs.witness_append.Goals as goal
+
+pub returns-in-Slot : goal.returns-in-Slot
+returns-in-Slot c =
+    let e = c.append_witness.ensures in
+    append_done _ _ _ _ e.1 _ _ (ap append_numbers (sym c.in-Slot.is) ∙ e.0) (omega arith)
+
+pub returns-in-Refused : goal.returns-in-Refused
+returns-in-Refused c =
+    let e = c.append_witness.ensures in
+    append_refused _ _ _ _ e.1 _ _ (ap append_numbers (sym c.in-Refused.is) ∙ e.0) (omega arith)

@@ -1,0 +1,7 @@
+-- The computed facts.
+use Rattle.example.proofs.ComputedLaws.{computed}
+use Rattle.example.proofs.computed_claim.Goals as goal
+
+pub returns : goal.returns
+returns c =
+    computed

@@ -1,0 +1,25 @@
+use Prim.Native.Nat.{◌-◌}
+use mathlib.Core.Path.{sym}
+use mathlib.Core.Bool.{false}
+use borrow.Author.Count.{below_none, below_more}
+use borrow.Author.Tests.{lt-ltb, le-ltb}
+use Rattle.search.proofs.SearchLaws.{lowest_is}
+use borrow.Author.Rules.{rules}
+use native.Mathlib.Omega.{arith}
+use Rattle.seek.proofs.first_fetched.Goals as goal
+
+pub loop-k-init : goal.loop-k-init
+loop-k-init c =
+    (search rules, below_none _)
+
+pub returns-then-bytes-k-gt-FETCH : goal.returns-then-bytes-k-gt-FETCH
+returns-then-bytes-k-gt-FETCH c =
+    sym (lowest_is _ _ _ (omega arith) c.loop-k.invariant.1 (λ _. lt-ltb _ _ c.if-bytes-k-gt-FETCH.true))
+
+pub loop-k-preserved : goal.loop-k-preserved
+loop-k-preserved c =
+    (search rules, below_more _ _ c.loop-k.invariant.1 (le-ltb _ _ c.if-bytes-k-gt-FETCH.false))
+
+pub returns : goal.returns
+returns c =
+    sym (lowest_is _ _ _ (omega arith) c.loop-k.invariant.1 (λ h. absurd (omega arith)))

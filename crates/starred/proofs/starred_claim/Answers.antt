@@ -1,0 +1,6 @@
+use Rattle.starred.proofs.ComputedLaws.{computed}
+use Rattle.starred.proofs.starred_claim.Goals as goal
+
+pub returns : goal.returns
+returns c =
+    computed.0

@@ -1,0 +1,12 @@
+-- `write_entry_bytes` copies from the front: the first i bytes are the entry's.
+use Prim.Native.Nat.{◌-◌, ◌≤◌}
+use mathlib.Core.Path.{◌≡◌}
+use lib.ListN.{length, take}
+use Rattle.record.specs.Layout.{entry_size}
+use Rattle.write.proofs.write_entry_bytes.Given as goal
+
+abbrev pub invariant-loop-i : goal.invariant-loop-i
+invariant-loop-i l = (l.i ≤ entry_size) × (length l.s ≡ entry_size) × (take l.i l.s ≡ take l.i l.entry)
+
+abbrev pub decreases-loop-i : goal.decreases-loop-i
+decreases-loop-i l = entry_size - l.i
