@@ -7,9 +7,9 @@ use Rattle.call_images.proofs.format.Goals as goal
 pub returns-in-Formatted : goal.returns-in-Formatted
 returns-in-Formatted c =
     let e = c.format_image.ensures in
-    format_done _ _ _ _ _ _ (ap format_numbers (sym c.in-Formatted.is) ∙ e.0, e.1) (omega arith) (omega arith)
+    format_done _ _ _ _ _ _ (ap format_numbers (sym c.in-Formatted.is) ∙ e.answer, e.image) (omega arith) (omega arith)
 
 pub returns-in-Refused : goal.returns-in-Refused
 returns-in-Refused c =
     let e = c.format_image.ensures in
-    format_refused _ _ _ _ _ _ _ (ap format_numbers (sym c.in-Refused.is) ∙ e.0, e.1) (omega arith) (omega arith)
+    format_refused _ _ _ _ _ _ _ (ap format_numbers (sym c.in-Refused.is) ∙ e.answer, e.image) (omega arith) (omega arith)

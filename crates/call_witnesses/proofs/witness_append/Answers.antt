@@ -7,9 +7,9 @@ use Rattle.call_witnesses.proofs.witness_append.Goals as goal
 pub returns-in-Slot : goal.returns-in-Slot
 returns-in-Slot c =
     let e = c.append_witness.ensures in
-    append_done _ _ _ _ e.1 _ _ (ap append_numbers (sym c.in-Slot.is) ∙ e.0) (omega arith)
+    append_done _ _ _ _ e.image _ _ (ap append_numbers (sym c.in-Slot.is) ∙ e.answer) (omega arith)
 
 pub returns-in-Refused : goal.returns-in-Refused
 returns-in-Refused c =
     let e = c.append_witness.ensures in
-    append_refused _ _ _ _ e.1 _ _ (ap append_numbers (sym c.in-Refused.is) ∙ e.0) (omega arith)
+    append_refused _ _ _ _ e.image _ _ (ap append_numbers (sym c.in-Refused.is) ∙ e.answer) (omega arith)

@@ -18,13 +18,13 @@ returns-then-is_witness c =
 pub entry_differs-requires : goal.entry_differs-requires
 entry_differs-requires c =
     let r = c.requires.0.in_range in
-    let both = (
-      (r.slots_fit, c.requires.1),
-      (
+    record {
+      m_bound = (r.slots_fit, c.requires.1);
+      card_fits = (
         (is_told c.args.shape c.args.c c.is_witness.ensures (omega arith) c.if-is_witness.false, image_within r _ c.requires.0.replica_below),
         (r.leader_card, image_within r _ r.leader_below),
-      ),
-    ) in record { m_bound = both.0; card_fits = both.1 }
+      );
+    }
 
 pub returns : goal.returns
 returns c =

@@ -29,9 +29,9 @@ pub returns : goal.returns
 returns c =
     let s = c.args in
     let opened = c.open_card-view.ensures in
-    let seen = opened.1 c.if-refusal-ne0.false in
-    read_done (lent_none _ _ _ _ _ _ opened.0 c.if-refusal-ne0.false c.if-epochs-m.false c.if-verdicts-m.false) _ _ _ _ _ _ _ _ _ _
+    let seen = opened.seen c.if-refusal-ne0.false in
+    read_done (lent_none _ _ _ _ _ _ opened.refusal c.if-refusal-ne0.false c.if-epochs-m.false c.if-verdicts-m.false) _ _ _ _ _ _ _ _ _ _
     (omega (arith, seen.length_is))
     (omega (arith, seen.first_is, first_is s.shape s.replica s.image.now))
     (seen_epochs _ _ _ _ _ seen _ c.if-epochs-m.false c.fill_epochs.ensures)
-    (seen_verdicts _ _ _ _ _ seen (rw (under_first _ _ _ seen.first_is) at (c.fill_verdicts.ensures s.replica (opened_card _ _ _ _ opened.0 c.if-refusal-ne0.false))))
+    (seen_verdicts _ _ _ _ _ seen (rw (under_first _ _ _ seen.first_is) at (c.fill_verdicts.ensures s.replica (opened_card _ _ _ _ opened.refusal c.if-refusal-ne0.false))))

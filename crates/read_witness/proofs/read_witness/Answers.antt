@@ -21,8 +21,8 @@ pub returns : goal.returns
 returns c =
     let s = c.args in
     let opened = c.open_witness-found.ensures in
-    let seen = opened.1 (omega (arith, c.if-unread-ne0.false)) in
-    witness_done (epochs_none _ _ _ _ _ opened.0 (omega (arith, c.if-unread-ne0.false)) (omega (arith, c.if-epochs-slots.false))) _ _ _ _ _ _ _
+    let seen = opened.seen (omega (arith, c.if-unread-ne0.false)) in
+    witness_done (epochs_none _ _ _ _ _ opened.refusal (omega (arith, c.if-unread-ne0.false)) (omega (arith, c.if-epochs-slots.false))) _ _ _ _ _ _ _
     (omega (arith, seen.length_is))
     (omega (arith, seen.first_is, first_is s.shape s.replica s.image.now))
     (seen_epochs _ _ _ _ _ seen _ (omega (arith, c.if-epochs-slots.false)) c.fill_epochs.ensures)

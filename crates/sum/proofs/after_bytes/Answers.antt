@@ -44,7 +44,4 @@ pub returns : goal.returns
 returns c =
     let known = c.loop-i.invariant in
     let end = c.loop-i-test.false in
-    let both = (
-      c.reduce.ensures ∙ sym (law.chunk_end_a _ _ _ end) ∙ known.3,
-      c.reduce-2.ensures ∙ sym (law.chunk_end_b _ _ _ _ end) ∙ known.4,
-    ) in record { first = both.0; second = both.1 }
+    record { first = c.reduce.ensures ∙ sym (law.chunk_end_a _ _ _ end) ∙ known.3; second = c.reduce-2.ensures ∙ sym (law.chunk_end_b _ _ _ _ end) ∙ known.4 }

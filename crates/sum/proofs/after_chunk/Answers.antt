@@ -27,4 +27,4 @@ returns c =
     let sums = c.after_bytes.ensures in
     let first = c.total.ensures in
     let second = c.second_sum.ensures in
-    record { first = sums.0 ∙ law.rows_end_a _ _ _ _ _ _ _ first known; second = sums.1 ∙ law.rows_end_b _ _ _ _ _ _ _ _ first second known }
+    record { first = sums.first ∙ law.rows_end_a _ _ _ _ _ _ _ first known; second = sums.second ∙ law.rows_end_b _ _ _ _ _ _ _ _ first second known }

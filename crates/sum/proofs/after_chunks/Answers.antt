@@ -15,10 +15,10 @@ loop-i-preserved c =
     let sums = c.after_chunk-sums.ensures in
     let on : c.loop-i.i ≤ c.chunk_end-e.result = omega arith in (
       search rules,
-      rw sums.0 (law.sum_a_lt _ _ known.1),
-      rw sums.1 (law.sum_b_lt _ _ _ known.2),
-      rw sums.0 (law.chunks_a _ _ _ _ on ∙ known.3),
-      rw (sums.0, sums.1) (law.chunks_b _ _ _ _ _ on ∙ known.4),
+      rw sums.first (law.sum_a_lt _ _ known.1),
+      rw sums.second (law.sum_b_lt _ _ _ known.2),
+      rw sums.first (law.chunks_a _ _ _ _ on ∙ known.3),
+      rw (sums.first, sums.second) (law.chunks_b _ _ _ _ _ on ∙ known.4),
     )
 
 pub returns : goal.returns

@@ -11,7 +11,7 @@ combined-requires c =
 pub returns-then-s-lt-SHORT : goal.returns-then-s-lt-SHORT
 returns-then-s-lt-SHORT c =
     let sums = c.after_bytes.ensures in
-    c.combined.ensures ∙ law.combined c.args.s.now _ _ _ _ (omega arith) (omega arith) sums.0 sums.1
+    c.combined.ensures ∙ law.combined c.args.s.now _ _ _ _ (omega arith) (omega arith) sums.first sums.second
 
 pub combined-requires-2 : goal.combined-requires-2
 combined-requires-2 c =
@@ -20,4 +20,4 @@ combined-requires-2 c =
 pub returns : goal.returns
 returns c =
     let sums = c.after_chunks.ensures in
-    c.combined-2.ensures ∙ law.combined c.args.s.now _ _ _ _ (omega arith) (omega arith) sums.0 sums.1
+    c.combined-2.ensures ∙ law.combined c.args.s.now _ _ _ _ (omega arith) (omega arith) sums.first sums.second

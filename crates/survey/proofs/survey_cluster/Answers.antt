@@ -29,7 +29,7 @@ replicas-preserved c =
       search rules,
       search rules,
       seen_more _ _ _ _ c.is_witness-witness.ensures (omega arith) c.replicas.invariant.2 (omega arith) (slots_high _ c.requires.1)
-          (sym c.contains.ensures ∙ not-false _ c.if-not-contains.false) (omega (arith, v.0)) (v.1 (omega arith))
+          (sym c.contains.ensures ∙ not-false _ c.if-not-contains.false) (omega (arith, v.refusal)) (v.seen (omega arith))
           c.copy_slots.ensures.conditions c.copy_slots.ensures.epochs c.insert-readable.ensures (omega arith) (omega arith),
     )
 

@@ -50,7 +50,4 @@ firsts_refusal-refusal-requires c =
 pub returns : goal.returns
 returns c =
     let z = sym c.shape_refusal-refusal.ensures ∙ c.if-refusal-ne0.false in
-    let both = (
-      cluster_firsts _ _ _ _ z _ _ _ _ _ (c.survey_cluster-survey.ensures _) (asked _ _ _ _ c.leader_refusal-unled.ensures (omega arith) (omega arith)) (omega arith) (led _ _ _ _ c.firsts_refusal-refusal.ensures (omega arith)),
-      λ e. cluster_survey _ _ _ _ z _ _ _ _ _ (c.survey_cluster-survey.ensures _) (asked _ _ _ _ c.leader_refusal-unled.ensures (omega arith) (omega arith)) (omega arith) (sym (led _ _ _ _ c.firsts_refusal-refusal.ensures (omega arith)) ∙ e),
-    ) in record { refusal = both.0; survey = both.1 }
+    record { refusal = cluster_firsts _ _ _ _ z _ _ _ _ _ (c.survey_cluster-survey.ensures _) (asked _ _ _ _ c.leader_refusal-unled.ensures (omega arith) (omega arith)) (omega arith) (led _ _ _ _ c.firsts_refusal-refusal.ensures (omega arith)); survey = λ e. cluster_survey _ _ _ _ z _ _ _ _ _ (c.survey_cluster-survey.ensures _) (asked _ _ _ _ c.leader_refusal-unled.ensures (omega arith) (omega arith)) (omega arith) (sym (led _ _ _ _ c.firsts_refusal-refusal.ensures (omega arith)) ∙ e) }

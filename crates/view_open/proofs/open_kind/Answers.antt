@@ -11,18 +11,15 @@ by y e h = e ∙ h
 
 pub returns-then-named-ne0 : goal.returns-then-named-ne0
 returns-then-named-ne0 c =
-    let both = (
-      c.refused_view.ensures ∙ kind_named _ _ _ _ (named_as _ _ (omega arith) c.named_refusal-named.ensures) (λ e. omega (arith, e, c.if-named-ne0.true)),
-      λ e. absurd (omega (arith, e, c.refused_view.ensures, c.if-named-ne0.true)),
-    ) in record { refusal = both.0; seen = both.1 }
+    record { refusal = c.refused_view.ensures ∙ kind_named _ _ _ _ (named_as _ _ (omega arith) c.named_refusal-named.ensures) (λ e. omega (arith, e, c.if-named-ne0.true)); seen = λ e. absurd (omega (arith, e, c.refused_view.ensures, c.if-named-ne0.true)) }
 
 pub returns-then-other : goal.returns-then-other
 returns-then-other c =
-    let both = (
-      by 3 (omega (arith, c.refused_view-then-other.ensures))
-          (kind_none _ _ _ _ (named_as _ _ (omega arith) c.named_refusal-named.ensures) (omega (arith, c.if-named-ne0.false)) c.if-other.true),
-      λ e. absurd (omega (arith, e, c.refused_view-then-other.ensures)),
-    ) in record { refusal = both.0; seen = both.1 }
+    record {
+      refusal = by 3 (omega (arith, c.refused_view-then-other.ensures))
+          (kind_none _ _ _ _ (named_as _ _ (omega arith) c.named_refusal-named.ensures) (omega (arith, c.if-named-ne0.false)) c.if-other.true);
+      seen = λ e. absurd (omega (arith, e, c.refused_view-then-other.ensures));
+    }
 
 pub returns : goal.returns
 returns c =
