@@ -4,15 +4,12 @@ use mathlib.Core.Path.{◌≡◌, refl, sym, ap, ◌∙◌}
 use mathlib.Core.Bool.{true, false}
 use mathlib.Core.List.{List, [], ◌∷◌}
 use native.Mathlib.Omega.{arith}
-use types.Run.{OneOf, miss}
-use denote.Enum.Declared.{tag_of}
 use lib.ListN.{take}
 use Rattle.slices.specs.Parts.{Bytes, part}
 use Rattle.slices.proofs.PartLaws.{part_take}
 use Rattle.record.specs.declared.Shape.{Shape}
 use Rattle.record.specs.declared.HeaderState.{HeaderState}
 use Rattle.record.specs.declared.HeaderState.TheVariants.{Proper, Improper}
-use Rattle.record.specs.contracts.HeaderState.{the_type}
 use Rattle.record.specs.Layout.{header_size}
 use Rattle.record.specs.Meaning.{Header, proper, improper, first_index, read_header}
 use Rattle.record.specs.Judged.{header_answer}
@@ -25,8 +22,8 @@ use Rattle.image.proofs.ScannedLaws.{length_scanned, refusal_scanned}
 use Rattle.image.proofs.DecodeLaws.{first_is}
 
 -- a header without the tag of the other case is improper
-pub is_improper : (a : HeaderState) → OneOf (1 ∷ []) (tag_of the_type a) → a ≡ Improper
-is_improper (Proper first) h = absurd (miss (1 ∷ []) 0 tt h)
+pub is_improper : (a : HeaderState) → ((first : ℕ) → a ≡ Proper first → ⊥) → a ≡ Improper
+is_improper (Proper first) h = absurd (h first refl)
 is_improper Improper h = refl
 
 -- what each answer of the judge says of a header

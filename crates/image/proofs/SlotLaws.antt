@@ -5,8 +5,6 @@ use mathlib.Core.Bool.{true, false}
 use mathlib.Core.List.{List, [], ◌∷◌}
 use native.Mathlib.Omega.{arith}
 use native.Mathlib.Numerals.{add-one}
-use types.Run.{OneOf, miss}
-use denote.Enum.Declared.{tag_of}
 use lib.ListN.{length, take, drop, set}
 use lib.Seq.{take-suc-set, take_all}
 use borrow.Author.Tests.{eq-eqb, ne_eqb}
@@ -21,7 +19,6 @@ use Rattle.record.specs.declared.RecordState.{RecordState}
 use Rattle.record.specs.declared.RecordState.TheVariants.{Good, Blank, Bad}
 use Rattle.record.specs.declared.EntryState.{EntryState}
 use Rattle.record.specs.declared.EntryState.TheVariants.{Intact, Broken}
-use Rattle.record.specs.contracts.RecordState.{the_type}
 use Rattle.image.specs.Image.{Image, index, record_at, entry_at, decode_under}
 use Rattle.image.specs.View.{condition, epoch_of, condition_at, epoch_at}
 use Rattle.image.specs.View.{condition_number}
@@ -98,9 +95,9 @@ slot_blank blank x q h = record { condition_is = refl; epoch_is = refl }
 slot_blank (bad b) x q h = absurd (let z : ◌≡◌ {A = ℕ} 0 1 = cc in omega arith)
 
 -- a record with neither of the two tags is bad
-pub is_bad : (a : RecordState) → OneOf (1 ∷ 2 ∷ []) (tag_of the_type a) → OneOf (0 ∷ 2 ∷ []) (tag_of the_type a) → a ≡ Bad
-is_bad (Good e) h k = absurd (miss (1 ∷ 2 ∷ []) 0 tt h)
-is_bad Blank h k = absurd (miss (0 ∷ 2 ∷ []) 1 tt k)
+pub is_bad : (a : RecordState) → ((e : ℕ) → a ≡ Good e → ⊥) → (a ≡ Blank → ⊥) → a ≡ Bad
+is_bad (Good e) h k = absurd (h e refl)
+is_bad Blank h k = absurd (k refl)
 is_bad Bad h k = refl
 
 pub slot_bad : {a : RecordState} (r : Record) (x : Entry) (number epoch : ℕ) → a ≡ Bad → a ≡ record_answer r

@@ -5,8 +5,6 @@ use mathlib.Core.Bool.{true, false}
 use mathlib.Core.List.{[], ◌∷◌}
 use mathlib.Core.Option.{Option, none, some}
 use native.Mathlib.Omega.{arith}
-use types.Run.{OneOf, miss}
-use denote.Enum.Declared.{tag_of}
 use Rattle.slices.specs.Parts.{Bytes, part, spliced}
 use Rattle.record.specs.declared.Shape.{Shape}
 use Rattle.record.specs.Layout.{entry_size, record_bytes, blank_record}
@@ -18,7 +16,6 @@ use Rattle.protocol.specs.StepBytes.{after_store_bytes}
 use Rattle.recovery.specs.NextStore.{store_of, BeginsAt}
 use Rattle.recovery.specs.declared.NextStore.{NextStore}
 use Rattle.recovery.specs.declared.NextStore.TheVariants.{Nothing, Entry, Record, Blank}
-use Rattle.recovery.specs.contracts.NextStore.{the_type}
 
 module _ (Z : Shape) (b : Bytes) where
   pub nothing_made : {s : NextStore} → s ≡ Nothing → b ≡ after (store_of s) b (λ t. after_store_bytes Z t b)
@@ -53,9 +50,9 @@ pub is_none : {s : NextStore} → s ≡ Nothing → false ≡ is_some (store_of 
 unfolding is_some
 is_none e = rw e
 
-pub is_some_lem : (s : NextStore) → OneOf (1 ∷ 2 ∷ 3 ∷ []) (tag_of the_type s) → true ≡ is_some (store_of s)
+pub is_some_lem : (s : NextStore) → (s ≡ Nothing → ⊥) → true ≡ is_some (store_of s)
 unfolding is_some
-is_some_lem Nothing h = absurd (miss (1 ∷ 2 ∷ 3 ∷ []) 0 tt h)
+is_some_lem Nothing h = absurd (h refl)
 is_some_lem (Entry c k d) h = refl
 is_some_lem (Record c k e) h = refl
 is_some_lem (Blank c k) h = refl

@@ -6,8 +6,6 @@ use mathlib.Core.List.{[], ◌∷◌}
 use native.Mathlib.Omega.{arith}
 use native.Mathlib.Decide.{dec_lt}
 use lib.Pow.{shl_exact}
-use types.Run.{OneOf, miss}
-use denote.Enum.Declared.{tag_of}
 use lib.ListN.{length, get_or}
 use borrow.Author.Tests.{lt-leb, le-leb, eq-eqb, ne_eqb}
 use Rattle.slices.specs.Parts.{Bytes, part}
@@ -17,7 +15,6 @@ use Rattle.column.specs.ColumnState.{column_state}
 use Rattle.column.specs.declared.ColumnState.{ColumnState}
 use Rattle.column.specs.declared.ColumnState.TheVariants.{Number, Blank}
 use Rattle.column.specs.declared.ColumnState.TheVariants as column
-use Rattle.column.specs.contracts.ColumnState.{the_type}
 use Rattle.column.proofs.StateLaws.{number_only_if}
 use Rattle.image.specs.View.{is_size, is_replica}
 use Rattle.report.specs.Command.{numbered, chosen, command_of, command_line, present_of}
@@ -28,11 +25,11 @@ use Rattle.report.specs.declared.Command.TheVariants.{Well, Malformed}
 
 -- no number stands there
 abbrev pub Other : ColumnState → Type 0
-Other s = OneOf (1 ∷ 2 ∷ []) (tag_of the_type s)
+Other s = (x : ℕ) → s ≡ Number x → ⊥
 
 not_numbered : (s : ColumnState) (then : ℕ → Command) → Other s → Malformed ≡ numbered s then
 unfolding numbered
-not_numbered (column.Number x) then h = absurd (miss (1 ∷ 2 ∷ []) 0 tt h)
+not_numbered (column.Number x) then h = absurd (h x refl)
 not_numbered column.Blank then h = refl
 not_numbered column.Malformed then h = refl
 

@@ -1,62 +1,71 @@
 // The printing program: reads a command line and a cluster, and prints the plan or the refusal.
-// From standard input. That a read or a write failed is told on standard error, since a program has no exit status.
-ghost use Rattle.io.specs.Counts.{IsPrefixLen};
+// From standard input. That a read or a write failed is told on standard error, and the program ends as ever.
+#![tactic(auto)]
 
-use libc::{STDIN_FILENO, STDOUT_FILENO};
+ghost use Rattle.std.specs.Prelude.{◌≤◌, length};
+
+use std::io::{self, Read, Write};
 
 // One byte more than the most that is accepted: what is read is all of the input, or too long already.
 const ROOM: usize = 65537;
 
-// How many bytes were read, and whether a read failed behind them.
+// How many bytes were read, and the failure of the read behind them, if one failed.
 #[derive(Drop)]
 struct Arrived {
     size: usize,
-    has_failed: bool,
+    failure: Option<io::Error>,
 }
 
-// Reads until `input` is full, the input ends or a read fails. io::read_full does not tell the last two apart.
-fn read_input(input: &mut [u8]) -> Arrived
-    ensures { IsPrefixLen result.size input.new }
+// Reads until `input` is full, the input ends or a read fails.
+fn read_input<R: Read>(reader: &mut R, input: &mut [u8]) -> Arrived
+    ensures { result.size ≤ length input.new }
 {
     let mut size = 0;
     while size < input.len() {
-        let got = libc::read(STDIN_FILENO, &mut input[size..]);
-        if got < 0 {
-            return Arrived {
-                size,
-                has_failed: true,
-            };
+        match reader.read(&mut input[size..]) {
+            Ok(0) => break,
+            Ok(more) => size += more,
+            Err(error) => {
+                return Arrived {
+                    size,
+                    failure: Some(error),
+                };
+            }
         }
-        let more = io::count(got, &input[size..]);
-        if more == 0 {
-            break;
-        }
-        size += more;
     }
     Arrived {
         size,
-        has_failed: false,
+        failure: None,
     }
 }
 
-// os::fail tells the errno of the last call that failed: nothing is called between a failed write and it.
-fn print_report(input: &[u8]) {
+// What failed and the system's reason on standard error, as `ropeplan: the input could not be read: Is a directory`. An error's own text
+// has the reason's number behind it, which is left out.
+fn tell(rt: &HostRuntime, what: &str, error: io::Error) -> io::Result<()> {
+    let text = format!(in rt.alloc(); "{error}")?;
+    let reason = match text.find(" (os error ") {
+        Some(end) => &text[..end],
+        None => text.as_str(),
+    };
+    eprintln!(rt; "ropeplan: {what}: {reason}")
+}
+
+fn print_report(rt: &HostRuntime, input: &[u8]) -> io::Result<()> {
     let report = print::report_of(input);
     let count = report.count;
     let bytes = report.bytes;
-    let is_written = io::write_all(STDOUT_FILENO, &bytes[..count]);
-    if !is_written {
-        os::fail(b"ropeplan: the output could not be written");
+    match rt.stdout().write_all(&bytes[..count]) {
+        Ok(()) => Ok(()),
+        Err(error) => tell(rt, "the output could not be written", error),
     }
 }
 
-fn main() {
+fn main(rt: HostRuntime) -> io::Result<()> {
     let mut input = [0u8; ROOM];
-    let arrived = read_input(&mut input);
-    if arrived.has_failed {
-        os::fail(b"ropeplan: the input could not be read");
-        return;
-    }
+    let arrived = read_input(&mut rt.stdin(), &mut input);
     let size = arrived.size;
-    print_report(&input[..size]);
+    match arrived.failure {
+        Some(error) => tell(&rt, "the input could not be read", error),
+        None => print_report(&rt, &input[..size]),
+    }
 }

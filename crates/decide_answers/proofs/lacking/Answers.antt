@@ -1,4 +1,3 @@
-use borrow.Author.Tests.{not-true, not-false}
 use Prim.Native.Nat.{◌-◌}
 use mathlib.Core.Path.{sym, ◌∙◌}
 use Rattle.planner.proofs.SetLaws.{set_none, set_in, set_out, set_end}
@@ -11,11 +10,11 @@ replicas-init c =
 
 pub replicas-preserved-then-not-lacks_slot : goal.replicas-preserved-then-not-lacks_slot
 replicas-preserved-then-not-lacks_slot c =
-    (search rules, λ l. set_out _ _ (c.replicas.invariant.1 l) (sym (c.lacks_slot.ensures _ l) ∙ not-true _ c.if-not-lacks_slot.true))
+    (search rules, λ l. set_out _ _ (c.replicas.invariant.1 l) (sym (c.lacks_slot.ensures _ l) ∙ c.if-not-lacks_slot.true))
 
 pub replicas-preserved : goal.replicas-preserved
 replicas-preserved c =
-    (search rules, λ l. c.insert-set.ensures ∙ set_in _ _ (c.replicas.invariant.1 l) (sym (c.lacks_slot.ensures _ l) ∙ not-false _ c.if-not-lacks_slot.false))
+    (search rules, λ l. c.insert-set.ensures ∙ set_in _ _ (c.replicas.invariant.1 l) (sym (c.lacks_slot.ensures _ l) ∙ c.if-not-lacks_slot.false))
 
 pub returns : goal.returns
 returns c =

@@ -4,7 +4,7 @@ use Rattle.pick.proofs.is_outstanding.Goals as goal
 
 pub returns-in_default : goal.returns-in_default
 returns-in_default c =
-    is_some_lem c.args.store c.in_default.keys2
+    is_some_lem c.args.store c.in_default.not-Nothing
 
 pub returns : goal.returns
 returns c =

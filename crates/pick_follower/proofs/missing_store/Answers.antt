@@ -1,6 +1,5 @@
 -- `missing_store` compares the entry of the first missing slot.
 use mathlib.Core.Path.{sym, ◌∙◌}
-use borrow.Author.Tests.{not-true, not-false}
 use Rattle.planner.specs.Plan.{views_in}
 use Rattle.protocol.specs.Recovery.{unlike}
 use Rattle.recovery.specs.Look.{cluster_in}
@@ -30,7 +29,7 @@ returns-then-not-lacks_entry c =
     let h = c.requires.replica_below in
     let on = sym (s.surveyed.readable_is _ h) ∙ c.requires.replica_reads in
     let y = looked s v.shape_is _ h on in
-    missing_record S (views_in S c.args.cluster.now) _ _ _ s.leader_is _ _ _ _ _ x y c.if-survey-leader.false (sym (c.lacks_entry.ensures S v y.length_is) ∙ not-true _ c.if-not-lacks_entry.true)
+    missing_record S (views_in S c.args.cluster.now) _ _ _ s.leader_is _ _ _ _ _ x y c.if-survey-leader.false (sym (c.lacks_entry.ensures S v y.length_is) ∙ c.if-not-lacks_entry.true)
 
 pub returns : goal.returns
 returns c =
@@ -40,4 +39,4 @@ returns c =
     let h = c.requires.replica_below in
     let on = sym (s.surveyed.readable_is _ h) ∙ c.requires.replica_reads in
     let y = looked s v.shape_is _ h on in
-    missing_entry S (views_in S c.args.cluster.now) _ _ _ s.leader_is _ _ _ _ _ x y c.if-survey-leader.false (sym (c.lacks_entry.ensures S v y.length_is) ∙ not-false _ c.if-not-lacks_entry.false)
+    missing_entry S (views_in S c.args.cluster.now) _ _ _ s.leader_is _ _ _ _ _ x y c.if-survey-leader.false (sym (c.lacks_entry.ensures S v y.length_is) ∙ c.if-not-lacks_entry.false)

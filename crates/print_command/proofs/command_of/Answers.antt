@@ -4,15 +4,15 @@ use Rattle.print_command.proofs.command_of.Goals as goal
 
 pub returns-in_default : goal.returns-in_default
 returns-in_default c =
-    law.no_n _ _ _ _ c.in_default.keys2
+    law.no_n _ _ _ _ c.in_default.not-Number
 
 pub returns-in_default-m : goal.returns-in_default-m
 returns-in_default-m c =
-    law.no_m _ _ _ _ c.in-Number.is c.in_default-m.keys2
+    law.no_m _ _ _ _ c.in-Number.is c.in_default-m.not-Number
 
 pub returns-in_default-leading : goal.returns-in_default-leading
 returns-in_default-leading c =
-    law.no_leader _ _ _ _ c.in-Number.is c.in-Number-m.is c.in_default-leading.keys2
+    law.no_leader _ _ _ _ c.in-Number.is c.in-Number-m.is c.in_default-leading.not-Number
 
 pub overflow_cast-result : goal.overflow_cast-result
 overflow_cast-result c =

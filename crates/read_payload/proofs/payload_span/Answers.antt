@@ -1,7 +1,6 @@
 -- `payload_span` finds the payload of a whole slot.
 use Prim.Native.Nat.{◌-◌}
 use mathlib.Core.Path.{sym, ap, ◌∙◌}
-use borrow.Author.Tests.{not-false}
 use Rattle.image.proofs.CallLaws.{slots_high}
 use Rattle.image.proofs.ReadLaws.{opened_slots, opened_size, opened_card}
 use Rattle.image.proofs.PayloadLaws.{has_low, has_below, has_whole, span_empty, no_payload_refused, no_payload, payload_there}
@@ -26,12 +25,12 @@ returns-then-not-holds_payload c =
 
 pub overflow_sub-slot : goal.overflow_sub-slot
 overflow_sub-slot c =
-    has_low _ _ _ (sym (c.holds_payload.ensures _ (c.open_card-view.ensures.seen c.if-refusal-ne0.false).conditions_are) ∙ not-false _ c.if-not-holds_payload.false)
+    has_low _ _ _ (sym (c.holds_payload.ensures _ (c.open_card-view.ensures.seen c.if-refusal-ne0.false).conditions_are) ∙ c.if-not-holds_payload.false)
 
 pub entry_span-requires : goal.entry_span-requires
 entry_span-requires c =
-    (slots_high _ (opened_slots _ _ _ _ c.open_card-view.ensures.refusal c.if-refusal-ne0.false), has_below _ _ _ (sym (c.holds_payload.ensures _ (c.open_card-view.ensures.seen c.if-refusal-ne0.false).conditions_are) ∙ not-false _ c.if-not-holds_payload.false), omega (arith, opened_size _ _ _ _ c.open_card-view.ensures.refusal c.if-refusal-ne0.false, entries_end c.args.shape c.args.replica (opened_card _ _ _ _ c.open_card-view.ensures.refusal c.if-refusal-ne0.false)))
+    (slots_high _ (opened_slots _ _ _ _ c.open_card-view.ensures.refusal c.if-refusal-ne0.false), has_below _ _ _ (sym (c.holds_payload.ensures _ (c.open_card-view.ensures.seen c.if-refusal-ne0.false).conditions_are) ∙ c.if-not-holds_payload.false), omega (arith, opened_size _ _ _ _ c.open_card-view.ensures.refusal c.if-refusal-ne0.false, entries_end c.args.shape c.args.replica (opened_card _ _ _ _ c.open_card-view.ensures.refusal c.if-refusal-ne0.false)))
 
 pub returns : goal.returns
 returns c =
-    (c.entry_span.ensures.0, payload_there _ _ _ _ _ c.open_card-view.ensures.refusal c.if-refusal-ne0.false (sym (c.holds_payload.ensures _ (c.open_card-view.ensures.seen c.if-refusal-ne0.false).conditions_are) ∙ not-false _ c.if-not-holds_payload.false) _ (c.entry_span.ensures.1 _ (opened_card _ _ _ _ c.open_card-view.ensures.refusal c.if-refusal-ne0.false) (ap (λ (i : Image). is_whole (condition_at i (c.args.slot - 1))) (under_first _ _ _ (c.open_card-view.ensures.seen c.if-refusal-ne0.false).first_is) ∙ has_whole _ _ _ (sym (c.holds_payload.ensures _ (c.open_card-view.ensures.seen c.if-refusal-ne0.false).conditions_are) ∙ not-false _ c.if-not-holds_payload.false))))
+    (c.entry_span.ensures.0, payload_there _ _ _ _ _ c.open_card-view.ensures.refusal c.if-refusal-ne0.false (sym (c.holds_payload.ensures _ (c.open_card-view.ensures.seen c.if-refusal-ne0.false).conditions_are) ∙ c.if-not-holds_payload.false) _ (c.entry_span.ensures.1 _ (opened_card _ _ _ _ c.open_card-view.ensures.refusal c.if-refusal-ne0.false) (ap (λ (i : Image). is_whole (condition_at i (c.args.slot - 1))) (under_first _ _ _ (c.open_card-view.ensures.seen c.if-refusal-ne0.false).first_is) ∙ has_whole _ _ _ (sym (c.holds_payload.ensures _ (c.open_card-view.ensures.seen c.if-refusal-ne0.false).conditions_are) ∙ c.if-not-holds_payload.false))))

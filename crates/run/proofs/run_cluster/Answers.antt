@@ -1,6 +1,5 @@
 use Prim.Native.Nat.{ℕ, ◌+◌, ◌-◌}
 use mathlib.Core.Path.{◌≡◌, refl, sym, ◌∙◌}
-use borrow.Author.Tests.{not-true, not-false}
 use mathlib.Core.List.{List}
 use Rattle.planner.specs.declared.Survey.{Survey}
 use Rattle.protocol.specs.Call.{Numbers, named}
@@ -76,7 +75,7 @@ pub returns-then-not-is_outstanding : goal.returns-then-not-is_outstanding
 returns-then-not-is_outstanding c =
     let a = c.args in
     let N = numbers a.shape a.leading a.present in
-    let both = counted_recovered (noting_recovered N c.loop-made.invariant (sym c.is_outstanding.ensures ∙ not-true _ c.if-not-is_outstanding.true)) (omega arith) in record { answer = both.0; bytes = both.1 }
+    let both = counted_recovered (noting_recovered N c.loop-made.invariant (sym c.is_outstanding.ensures ∙ c.if-not-is_outstanding.true)) (omega arith) in record { answer = both.0; bytes = both.1 }
 
 pub offset_bounds-survey-leader : goal.offset_bounds-survey-leader
 offset_bounds-survey-leader c =
@@ -108,7 +107,7 @@ next_store-store-requires c =
     let a = c.args in
     let N = numbers a.shape a.leading a.present in
     let g = c.loop-made.invariant in
-    let t = sym c.is_outstanding.ensures ∙ not-false _ c.if-not-is_outstanding.false in
+    let t = sym c.is_outstanding.ensures ∙ c.if-not-is_outstanding.false in
     let x = c.make_store.ensures in
     let f = c.note_store-survey.ensures in
     let q = c.made_on.ensures in
@@ -119,7 +118,7 @@ loop-made-preserved c =
     let a = c.args in
     let N = numbers a.shape a.leading a.present in
     let g = c.loop-made.invariant in
-    let t = sym c.is_outstanding.ensures ∙ not-false _ c.if-not-is_outstanding.false in
+    let t = sym c.is_outstanding.ensures ∙ c.if-not-is_outstanding.false in
     let x = c.make_store.ensures in
     let f = c.note_store-survey.ensures in
     let q = c.made_on.ensures in

@@ -1,6 +1,5 @@
 use Prim.Native.Nat.{◌-◌}
 use mathlib.Core.Path.{refl, sym, ◌∙◌}
-use borrow.Author.Tests.{not-true, not-false}
 use Rattle.image.proofs.CallLaws.{slots_high, size_high}
 use Rattle.planner.proofs.SeenLaws.{partly_none, partly_skip, partly_all, absent_off, refused_off, seen_more, surveyed_any}
 use borrow.Author.Rules.{rules}
@@ -13,7 +12,7 @@ replicas-init c =
 
 pub replicas-preserved-then-not-contains : goal.replicas-preserved-then-not-contains
 replicas-preserved-then-not-contains c =
-    (search rules, search rules, partly_skip _ c.replicas.invariant.2 (absent_off _ _ _ _ (sym c.contains.ensures ∙ not-true _ c.if-not-contains.true)))
+    (search rules, search rules, partly_skip _ c.replicas.invariant.2 (absent_off _ _ _ _ (sym c.contains.ensures ∙ c.if-not-contains.true)))
 
 pub view_replica-view-requires : goal.view_replica-view-requires
 view_replica-view-requires c =
@@ -29,7 +28,7 @@ replicas-preserved c =
       search rules,
       search rules,
       seen_more _ _ _ _ c.is_witness-witness.ensures (omega arith) c.replicas.invariant.2 (omega arith) (slots_high _ c.requires.1)
-          (sym c.contains.ensures ∙ not-false _ c.if-not-contains.false) (omega (arith, v.refusal)) (v.seen (omega arith))
+          (sym c.contains.ensures ∙ c.if-not-contains.false) (omega (arith, v.refusal)) (v.seen (omega arith))
           c.copy_slots.ensures.conditions c.copy_slots.ensures.epochs c.insert-readable.ensures (omega arith) (omega arith),
     )
 

@@ -3,7 +3,6 @@ use mathlib.Core.Path.{◌≡◌, sym, ◌∙◌}
 use mathlib.Core.Bool.{Bool, true, not}
 use mathlib.Core.List.{List}
 use lib.ListN.{get_or}
-use borrow.Author.Tests.{not-true, not-false}
 use Rattle.image.specs.Refusal.{refuse}
 use Rattle.search.specs.Sets.{has}
 use Rattle.planner.specs.Survey.{same_numbers}
@@ -26,11 +25,11 @@ replicas-init c =
 
 pub replicas-preserved-then-not-contains : goal.replicas-preserved-then-not-contains
 replicas-preserved-then-not-contains c =
-    (search rules, below_away _ c.replicas.invariant.1 (tested _ _ c.contains.ensures (omega arith) (omega arith) (not-true _ c.if-not-contains.true)))
+    (search rules, below_away _ c.replicas.invariant.1 (tested _ _ c.contains.ensures (omega arith) (omega arith) (c.if-not-contains.true)))
 
 pub returns-then-firsts-c : goal.returns-then-firsts-c
 returns-then-firsts-c c =
-    refused _ _ _ _ _ c.replicas-test.true (tested _ _ c.contains.ensures (omega arith) (omega arith) (not-false _ c.if-not-contains.false)) c.if-firsts-c.true (omega arith)
+    refused _ _ _ _ _ c.replicas-test.true (tested _ _ c.contains.ensures (omega arith) (omega arith) (c.if-not-contains.false)) c.if-firsts-c.true (omega arith)
 
 pub replicas-preserved : goal.replicas-preserved
 replicas-preserved c =

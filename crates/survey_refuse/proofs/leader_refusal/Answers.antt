@@ -3,7 +3,6 @@ use mathlib.Core.Path.{◌≡◌, sym, ◌∙◌}
 use mathlib.Core.Bool.{Bool}
 use native.Mathlib.Omega.{arith}
 use Rattle.search.specs.Sets.{has}
-use borrow.Author.Tests.{not-true, not-false}
 use Rattle.planner.proofs.CallLaws.{leader_low, leader_high, leader_off, leader_witness, leader_on}
 use Rattle.survey_refuse.proofs.leader_refusal.Goals as goal
 
@@ -21,12 +20,12 @@ returns-then-n-leading c =
 
 pub returns-then-not-contains : goal.returns-then-not-contains
 returns-then-not-contains c =
-    leader_off _ _ _ _ c.if-leading-lt1.false c.if-n-leading.false (sym c.contains.ensures ∙ not-true _ c.if-not-contains.true)
+    leader_off _ _ _ _ c.if-leading-lt1.false c.if-n-leading.false (sym c.contains.ensures ∙ c.if-not-contains.true)
 
 pub returns-then-contains : goal.returns-then-contains
 returns-then-contains c =
-    leader_witness _ _ _ _ c.if-leading-lt1.false c.if-n-leading.false (sym c.contains.ensures ∙ not-false _ c.if-not-contains.false) (member _ _ c.contains-2.ensures (omega arith) (omega arith) c.if-contains.true)
+    leader_witness _ _ _ _ c.if-leading-lt1.false c.if-n-leading.false (sym c.contains.ensures ∙ c.if-not-contains.false) (member _ _ c.contains-2.ensures (omega arith) (omega arith) c.if-contains.true)
 
 pub returns : goal.returns
 returns c =
-    leader_on _ _ _ _ c.if-leading-lt1.false c.if-n-leading.false (sym c.contains.ensures ∙ not-false _ c.if-not-contains.false) (member _ _ c.contains-2.ensures (omega arith) (omega arith) c.if-contains.false)
+    leader_on _ _ _ _ c.if-leading-lt1.false c.if-n-leading.false (sym c.contains.ensures ∙ c.if-not-contains.false) (member _ _ c.contains-2.ensures (omega arith) (omega arith) c.if-contains.false)

@@ -3,7 +3,6 @@ use mathlib.Core.Path.{◌≡◌, sym, ◌∙◌}
 use mathlib.Core.Bool.{Bool}
 use lib.Dec.{ltb}
 use Rattle.planner.specs.Sets.{is_within}
-use borrow.Author.Tests.{not-true, not-false}
 use Rattle.image.specs.View.{is_edition}
 use Rattle.image.proofs.CallLaws.{slots_few, slots_many, is_slots_lem, size_high}
 use Rattle.planner.proofs.ShapeLaws.{shape_slots, shape_size, shape_edition, shape_bytes, shape_set, shape_witnesses, shape_none, cluster_fits}
@@ -29,40 +28,40 @@ returns-then-shape-gt-MAX_SLOTS c =
 
 pub returns-then-not-is_size : goal.returns-then-not-is_size
 returns-then-not-is_size c =
-    shape_size _ _ _ (is_slots_lem _ c.if-shape-lt1.false c.if-shape-gt-MAX_SLOTS.false) (sym c.is_size.ensures ∙ not-true _ c.if-not-is_size.true)
+    shape_size _ _ _ (is_slots_lem _ c.if-shape-lt1.false c.if-shape-gt-MAX_SLOTS.false) (sym c.is_size.ensures ∙ c.if-not-is_size.true)
 
 pub returns-then-not-is_edition : goal.returns-then-not-is_edition
 returns-then-not-is_edition c =
-    shape_edition _ _ _ (is_slots_lem _ c.if-shape-lt1.false c.if-shape-gt-MAX_SLOTS.false) (tested _ c.is_edition.ensures (omega arith) (not-true _ c.if-not-is_edition.true))
+    shape_edition _ _ _ (is_slots_lem _ c.if-shape-lt1.false c.if-shape-gt-MAX_SLOTS.false) (tested _ c.is_edition.ensures (omega arith) (c.if-not-is_edition.true))
 
 pub image_at-requires : goal.image_at-requires
 image_at-requires c =
-    let few = size_high c.args.shape.n (sym c.is_size.ensures ∙ not-false _ c.if-not-is_size.false) in
+    let few = size_high c.args.shape.n (sym c.is_size.ensures ∙ c.if-not-is_size.false) in
     (omega arith, omega (arith, cluster_fits c.args.shape few (omega arith)))
 
 pub returns-then-size-image_at : goal.returns-then-size-image_at
 returns-then-size-image_at c =
-    shape_bytes _ _ _ (is_slots_lem _ c.if-shape-lt1.false c.if-shape-gt-MAX_SLOTS.false) (sym c.is_size.ensures ∙ not-false _ c.if-not-is_size.false) (tested _ c.is_edition.ensures (omega arith) (not-false _ c.if-not-is_edition.false)) c.image_at.ensures c.if-size-image_at.true
+    shape_bytes _ _ _ (is_slots_lem _ c.if-shape-lt1.false c.if-shape-gt-MAX_SLOTS.false) (sym c.is_size.ensures ∙ c.if-not-is_size.false) (tested _ c.is_edition.ensures (omega arith) (c.if-not-is_edition.false)) c.image_at.ensures c.if-size-image_at.true
 
 pub is_within-requires : goal.is_within-requires
 is_within-requires c =
-    omega (arith, size_high c.args.shape.n (sym c.is_size.ensures ∙ not-false _ c.if-not-is_size.false))
+    omega (arith, size_high c.args.shape.n (sym c.is_size.ensures ∙ c.if-not-is_size.false))
 
 pub returns-then-not-is_within : goal.returns-then-not-is_within
 returns-then-not-is_within c =
     let a = c.args in
-    shape_set _ _ _ (is_slots_lem _ c.if-shape-lt1.false c.if-shape-gt-MAX_SLOTS.false) (sym c.is_size.ensures ∙ not-false _ c.if-not-is_size.false) (tested _ c.is_edition.ensures (omega arith) (not-false _ c.if-not-is_edition.false)) c.image_at.ensures c.if-size-image_at.false (bounded a.present a.shape.n c.is_Within.ensures (omega arith) (omega arith) (not-true _ c.if-not-is_within.true))
+    shape_set _ _ _ (is_slots_lem _ c.if-shape-lt1.false c.if-shape-gt-MAX_SLOTS.false) (sym c.is_size.ensures ∙ c.if-not-is_size.false) (tested _ c.is_edition.ensures (omega arith) (c.if-not-is_edition.false)) c.image_at.ensures c.if-size-image_at.false (bounded a.present a.shape.n c.is_Within.ensures (omega arith) (omega arith) (c.if-not-is_within.true))
 
 pub is_within-requires-2 : goal.is_within-requires-2
 is_within-requires-2 c =
-    omega (arith, size_high c.args.shape.n (sym c.is_size.ensures ∙ not-false _ c.if-not-is_size.false))
+    omega (arith, size_high c.args.shape.n (sym c.is_size.ensures ∙ c.if-not-is_size.false))
 
 pub returns-then-not-is_within-2 : goal.returns-then-not-is_within-2
 returns-then-not-is_within-2 c =
     let a = c.args in
-    shape_witnesses _ _ _ (is_slots_lem _ c.if-shape-lt1.false c.if-shape-gt-MAX_SLOTS.false) (sym c.is_size.ensures ∙ not-false _ c.if-not-is_size.false) (tested _ c.is_edition.ensures (omega arith) (not-false _ c.if-not-is_edition.false)) c.image_at.ensures c.if-size-image_at.false (bounded a.present a.shape.n c.is_Within.ensures (omega arith) (omega arith) (not-false _ c.if-not-is_within.false)) (bounded a.shape.witnesses a.shape.n c.is_within-2.ensures (omega arith) (omega arith) (not-true _ c.if-not-is_within-2.true))
+    shape_witnesses _ _ _ (is_slots_lem _ c.if-shape-lt1.false c.if-shape-gt-MAX_SLOTS.false) (sym c.is_size.ensures ∙ c.if-not-is_size.false) (tested _ c.is_edition.ensures (omega arith) (c.if-not-is_edition.false)) c.image_at.ensures c.if-size-image_at.false (bounded a.present a.shape.n c.is_Within.ensures (omega arith) (omega arith) (c.if-not-is_within.false)) (bounded a.shape.witnesses a.shape.n c.is_within-2.ensures (omega arith) (omega arith) (c.if-not-is_within-2.true))
 
 pub returns : goal.returns
 returns c =
     let a = c.args in
-    shape_none _ _ _ (is_slots_lem _ c.if-shape-lt1.false c.if-shape-gt-MAX_SLOTS.false) (sym c.is_size.ensures ∙ not-false _ c.if-not-is_size.false) (tested _ c.is_edition.ensures (omega arith) (not-false _ c.if-not-is_edition.false)) c.image_at.ensures c.if-size-image_at.false (bounded a.present a.shape.n c.is_Within.ensures (omega arith) (omega arith) (not-false _ c.if-not-is_within.false)) (bounded a.shape.witnesses a.shape.n c.is_within-2.ensures (omega arith) (omega arith) (not-false _ c.if-not-is_within-2.false))
+    shape_none _ _ _ (is_slots_lem _ c.if-shape-lt1.false c.if-shape-gt-MAX_SLOTS.false) (sym c.is_size.ensures ∙ c.if-not-is_size.false) (tested _ c.is_edition.ensures (omega arith) (c.if-not-is_edition.false)) c.image_at.ensures c.if-size-image_at.false (bounded a.present a.shape.n c.is_Within.ensures (omega arith) (omega arith) (c.if-not-is_within.false)) (bounded a.shape.witnesses a.shape.n c.is_within-2.ensures (omega arith) (omega arith) (c.if-not-is_within-2.false))

@@ -1,12 +1,11 @@
 -- `condition_as` renames a used slot of a witness.
-use borrow.Author.Tests.{not-true, not-false}
 use Rattle.planner.proofs.SeenLaws.{number_card, number_unused, number_lost, number_used}
 use native.Mathlib.Omega.{arith}
 use Rattle.survey_slots.proofs.condition_as.Goals as goal
 
 pub returns-then-not-witness : goal.returns-then-not-witness
 returns-then-not-witness c =
-    number_card _ (not-true _ c.if-not-witness.true)
+    number_card _ (c.if-not-witness.true)
 
 pub returns-then-condition-eq-UNUSED : goal.returns-then-condition-eq-UNUSED
 returns-then-condition-eq-UNUSED c =
@@ -18,4 +17,4 @@ returns-then-condition-eq-LOST c =
 
 pub returns : goal.returns
 returns c =
-    number_used _ (omega arith) (not-false _ c.if-not-witness.false) c.if-condition-eq-UNUSED.false c.if-condition-eq-LOST.false
+    number_used _ (omega arith) (c.if-not-witness.false) c.if-condition-eq-UNUSED.false c.if-condition-eq-LOST.false

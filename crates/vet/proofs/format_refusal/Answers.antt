@@ -2,7 +2,6 @@
 use Prim.Native.Nat.{ℕ, ◌≤◌}
 use mathlib.Core.Path.{◌≡◌, sym, ap, ◌∙◌}
 use mathlib.Core.Bool.{Bool}
-use borrow.Author.Tests.{not-true, not-false}
 use Rattle.record.specs.declared.Shape.{Shape}
 use Rattle.record.specs.Meaning.{is_first}
 use Rattle.image.specs.View.{named_refusal}
@@ -32,12 +31,12 @@ image_size-whole-requires c =
 
 pub returns-then-not-begins : goal.returns-then-not-begins
 returns-then-not-begins c =
-    by 20 (omega arith) (format_first _ _ _ _ c.named_refusal-unnamed.ensures (omega (arith, c.if-unnamed-ne0.false)) (tested _ _ c.is_first-begins.ensures (omega arith) (not-true _ c.if-not-begins.true)))
+    by 20 (omega arith) (format_first _ _ _ _ c.named_refusal-unnamed.ensures (omega (arith, c.if-unnamed-ne0.false)) (tested _ _ c.is_first-begins.ensures (omega arith) (c.if-not-begins.true)))
 
 pub returns-then-size-whole : goal.returns-then-size-whole
 returns-then-size-whole c =
-    by 3 (omega arith) (format_bytes _ _ _ _ c.named_refusal-unnamed.ensures (omega (arith, c.if-unnamed-ne0.false)) (tested _ _ c.is_first-begins.ensures (omega arith) (not-false _ c.if-not-begins.false)) (λ e. omega (arith, e, c.if-size-whole.true, c.image_size-whole.ensures)))
+    by 3 (omega arith) (format_bytes _ _ _ _ c.named_refusal-unnamed.ensures (omega (arith, c.if-unnamed-ne0.false)) (tested _ _ c.is_first-begins.ensures (omega arith) (c.if-not-begins.false)) (λ e. omega (arith, e, c.if-size-whole.true, c.image_size-whole.ensures)))
 
 pub returns : goal.returns
 returns c =
-    by 0 (omega arith) (format_none _ _ _ _ c.named_refusal-unnamed.ensures (omega (arith, c.if-unnamed-ne0.false)) (tested _ _ c.is_first-begins.ensures (omega arith) (not-false _ c.if-not-begins.false)) (omega (arith, c.if-size-whole.false, c.image_size-whole.ensures)))
+    by 0 (omega arith) (format_none _ _ _ _ c.named_refusal-unnamed.ensures (omega (arith, c.if-unnamed-ne0.false)) (tested _ _ c.is_first-begins.ensures (omega arith) (c.if-not-begins.false)) (omega (arith, c.if-size-whole.false, c.image_size-whole.ensures)))

@@ -1,7 +1,6 @@
 -- `named_refusal` tries the caller's numbers in the order of their refusals.
 use Prim.Native.Nat.{ℕ}
 use mathlib.Core.Path.{◌≡◌, sym, ◌∙◌}
-use borrow.Author.Tests.{not-true, not-false}
 use Rattle.image.proofs.CallLaws.{slots_few, slots_many, is_slots_lem, replica_low, replica_high, is_replica_lem, named_slots, named_size, named_edition, named_replica, named_none}
 use native.Mathlib.Omega.{arith}
 use Rattle.vet.proofs.named_refusal.Goals as goal
@@ -20,11 +19,11 @@ returns-then-m-gt-MAX_SLOTS c =
 
 pub returns-then-not-is_size : goal.returns-then-not-is_size
 returns-then-not-is_size c =
-    by 2 (omega arith) (named_size _ _ (is_slots_lem _ (omega arith) (omega arith)) (sym c.is_size.ensures ∙ not-true _ c.if-not-is_size.true))
+    by 2 (omega arith) (named_size _ _ (is_slots_lem _ (omega arith) (omega arith)) (sym c.is_size.ensures ∙ c.if-not-is_size.true))
 
 pub returns-then-not-is_edition : goal.returns-then-not-is_edition
 returns-then-not-is_edition c =
-    by 2 (omega arith) (named_edition _ _ (is_slots_lem _ (omega arith) (omega arith)) (sym c.is_edition.ensures ∙ not-true _ c.if-not-is_edition.true))
+    by 2 (omega arith) (named_edition _ _ (is_slots_lem _ (omega arith) (omega arith)) (sym c.is_edition.ensures ∙ c.if-not-is_edition.true))
 
 pub returns-then-replica-lt1 : goal.returns-then-replica-lt1
 returns-then-replica-lt1 c =
@@ -36,4 +35,4 @@ returns-then-n-replica c =
 
 pub returns : goal.returns
 returns c =
-    by 0 (omega arith) (named_none _ _ (is_slots_lem _ (omega arith) (omega arith)) (sym c.is_size.ensures ∙ not-false _ c.if-not-is_size.false) (sym c.is_edition.ensures ∙ not-false _ c.if-not-is_edition.false) (is_replica_lem _ _ (omega arith) (omega arith)))
+    by 0 (omega arith) (named_none _ _ (is_slots_lem _ (omega arith) (omega arith)) (sym c.is_size.ensures ∙ c.if-not-is_size.false) (sym c.is_edition.ensures ∙ c.if-not-is_edition.false) (is_replica_lem _ _ (omega arith) (omega arith)))
