@@ -1,10 +1,11 @@
 -- A cluster before the damage, damaged, is one with histories.
 use Prim.Native.Nat.{ℕ, ◌+◌, ◌-◌, ◌<◌}
-use mathlib.Core.Path.{◌≡◌, refl}
+use mathlib.Core.Path.{◌≡◌, refl, ap}
 use mathlib.Core.Bool.{Bool, true, false, cond}
+use mathlib.Core.List.{[]}
 use native.Mathlib.Omega.{arith}
 use Rattle.slices.specs.Parts.{Bytes}
-use Rattle.record.specs.Meaning.{Header, proper, improper, first_index, Record, good, blank, Entry, intact}
+use Rattle.record.specs.Meaning.{Header, proper, improper, first_index, Record, good, blank, Entry, intact, broken}
 use Rattle.image.specs.Image.{Image, index}
 use Rattle.image.specs.Cluster.{Cluster}
 use Rattle.image.specs.View.{condition_at, epoch_of, epoch_at, log_length}
@@ -21,14 +22,23 @@ stored_slot : (r : Record) (x : Entry) (e : ℕ) (p : Bytes) → r ≡ good e �
 unfolding payload_in
 stored_slot r x e p a b = rw (a, b) arrived
 
-slot_damaged : {r s : Record} {x y : Entry} (p : Bytes) → FlightSlot p r x → SlotDamage r x s y → DamagedSlot (epoch_of r x) p s y
+-- The damaged slot is named apart from the one in flight, so that an epoch that stands in both is compared and not matched twice.
+slot_damaged_as : {r q s : Record} {x w y : Entry} (p : Bytes) → FlightSlot p r x → SlotDamage q w s y → r ≡ q → x ≡ w → DamagedSlot (epoch_of r x) p s y
 unfolding epoch_of
-slot_damaged p arrived spared = undamaged
-slot_damaged p arrived record_damaged = record_bad
-slot_damaged p arrived (entry_damaged h) = entry_bad h
-slot_damaged p (record_alone h) spared = entry_bad h
-slot_damaged p (record_alone h) record_damaged = absurd (h _ refl)
-slot_damaged p (record_alone h) (entry_damaged g) = entry_bad g
+slot_damaged_as p arrived spared a b = rw (← a, ← b) undamaged
+slot_damaged_as p arrived record_damaged a b = rw (← b) record_bad
+slot_damaged_as p (arrived {e}) (entry_damaged {e = f} h) a b =
+    let same : e ≡ f = ap (λ (z : Record). epoch_of z (broken [])) a in rw same (entry_bad h)
+slot_damaged_as p arrived unused_damaged a b = absurd (let z : ◌≡◌ {A = ℕ} 0 1 = cc in omega arith)
+slot_damaged_as p (record_alone h) spared a b = rw (← a, ← b) (entry_bad h)
+slot_damaged_as p (record_alone {e} h) (record_damaged {e = f} {p = q}) a b =
+    let same : e ≡ f = ap (λ (z : Record). epoch_of z (broken [])) a in absurd (h q (rw same b))
+slot_damaged_as p (record_alone {e} h) (entry_damaged {e = f} g) a b =
+    let same : e ≡ f = ap (λ (z : Record). epoch_of z (broken [])) a in rw same (entry_bad g)
+slot_damaged_as p (record_alone h) unused_damaged a b = absurd (let z : ◌≡◌ {A = ℕ} 0 1 = cc in omega arith)
+
+slot_damaged : {r s : Record} {x y : Entry} (p : Bytes) → FlightSlot p r x → SlotDamage r x s y → DamagedSlot (epoch_of r x) p s y
+slot_damaged p f d = slot_damaged_as p f d refl refl
 
 blank_kept : {r s : Record} {x y : Entry} → SlotDamage r x s y → r ≡ blank → s ≡ blank
 blank_kept spared e = e

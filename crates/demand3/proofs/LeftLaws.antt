@@ -28,7 +28,7 @@ use Rattle.protocol.proofs.Reach as reach
 module _ (S : Setting) (low : S.leader < S.shape.n) where
   open S use {shape}
 
-  interrupted_reach : {s : Store} {a : Bytes} (b : Bytes) → length b ≡ image_at shape shape.n → next S (decode shape b) ≡ some s → Interrupted S b s a → Reached S b a
+  interrupted_reach : {s : Store} (b : Bytes) {a : Bytes} → length b ≡ image_at shape shape.n → next S (decode shape b) ≡ some s → Interrupted S b s a → Reached S b a
   unfolding store_replica store_slot
   interrupted_reach b size e old = record { size = size; reach = here }
   interrupted_reach b size e (new {s}) =

@@ -20,12 +20,11 @@ make_store-requires c =
     let a = c.args in
     let N = numbers a.shape a.leading a.present in
     let b = a.cluster.now in
-    let q = c.in
-    let both = -Ready.is in
+    let q = c.in-Ready.is in
     let i = c.view_recovery.ensures in
     let e = ready_accepts N b q i in
     let s = c.in-Ready.store in
-    ((slots_few N b e, store_fits N b e s (ready_next N b q i)), begun-at a.shape b s (ready_begins N b q i) (omega arith)) in record { m_bound = both.0; begins_at = both.1 }
+    record { m_bound = (slots_few N b e, store_fits N b e s (ready_next N b q i)); begins_at = begun-at a.shape b s (ready_begins N b q i) (omega arith) }
 
 pub step_answer-requires : goal.step_answer-requires
 step_answer-requires c =
@@ -44,27 +43,24 @@ returns-in-Refused c =
     let a = c.args in
     let N = numbers a.shape a.leading a.present in
     let b = a.cluster.now in
-    let q = c.in
-    let both = -Refused.is in
+    let q = c.in-Refused.is in
     let i = c.view_recovery.ensures in
-    (refused_step N b q i, refused_step_bytes N b q i) in record { answer = both.0; bytes = both.1 }
+    record { answer = refused_step N b q i; bytes = refused_step_bytes N b q i }
 
 pub returns-in-Waiting : goal.returns-in-Waiting
 returns-in-Waiting c =
     let a = c.args in
     let N = numbers a.shape a.leading a.present in
     let b = a.cluster.now in
-    let q = c.in
-    let both = -Waiting.is in
+    let q = c.in-Waiting.is in
     let i = c.view_recovery.ensures in
-    (waiting_step N b q i, waiting_step_bytes N b q i) in record { answer = both.0; bytes = both.1 }
+    record { answer = waiting_step N b q i; bytes = waiting_step_bytes N b q i }
 
 pub returns-in-Ready : goal.returns-in-Ready
 returns-in-Ready c =
     let a = c.args in
     let N = numbers a.shape a.leading a.present in
     let b = a.cluster.now in
-    let q = c.in
-    let both = -Ready.is in
+    let q = c.in-Ready.is in
     let i = c.view_recovery.ensures in
-    (ready_stepped N b q i c.step_answer.ensures, ready_step_bytes N b q i c.make_store.ensures) in record { answer = both.0; bytes = both.1 }
+    record { answer = ready_stepped N b q i c.step_answer.ensures; bytes = ready_step_bytes N b q i c.make_store.ensures }

@@ -61,8 +61,7 @@ pub returns : goal.returns
 returns c =
     let s = c.args in
     let judged = front-judged s.shape s.replica s.image.now c.header_size-e.ensures c.judge_header.ensures in
-    let proper = c.in
-    let both = -Proper.is in
+    let proper = c.in-Proper.is in
     let scanned = scanned-from s.shape s.replica s.image.now c.in-Proper.first (omega arith) c.scan-seen.ensures in
     let used = c.log_length-length.ensures in
-    (view_scanned s.shape s.replica s.image.now judged proper scanned used c.scan_refusal-refusal.ensures, λ e. seen-from _ _ c.in-Proper.first (omega arith) (view_seen s.shape s.replica s.image.now judged proper scanned used)) in record { refusal = both.0; seen = both.1 }
+    record { refusal = view_scanned s.shape s.replica s.image.now judged proper scanned used c.scan_refusal-refusal.ensures; seen = λ e. seen-from _ _ c.in-Proper.first (omega arith) (view_seen s.shape s.replica s.image.now judged proper scanned used) }
