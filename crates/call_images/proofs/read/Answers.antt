@@ -4,20 +4,6 @@ use Rattle.image.specs.Answers.{read_numbers}
 use native.Mathlib.Omega.{arith}
 use Rattle.call_images.proofs.read.Goals as goal
 
-pub read_spec : {M : Type 1} → statement M
-read_spec =
-    tie.close
-    (tie.spec
-    read-image-requires
-    enum-known-length
-    enum-known-refusal
-    same_length
-    same-length-2
-    returns
-    same-length-3
-    same-length-4
-    returns-2)
-
 pub returns-in-Log : goal.returns-in-Log
 returns-in-Log c =
     let e = c.read_image.ensures in

@@ -1,12 +1,12 @@
 use Prim.Native.Nat.{◌-◌}
 use mathlib.Core.Path.{refl, sym, ◌∙◌}
 use mathlib.Core.Bool.{false}
-use mathlib.Core.Logic.{⊎_elim}
 use borrow.Author.Count.{below_none, below_more}
 use Rattle.planner.proofs.RuleLaws.{walked_none, zero_at, turn_kept, turn_fetch, turn_wait, stops_at, stops_behind}
 use borrow.Author.Rules.{rules}
 use native.Mathlib.Omega.{arith}
 use Rattle.decide_slots.proofs.walk_slots.Goals as goal
+use Rattle.decide_slots.proofs.walk_slots.Goals.{then-n-c+else-may_truncate, else-n-c+then-has_slot}
 
 pub slots-init : goal.slots-init
 slots-init c =
@@ -25,8 +25,15 @@ loop-c-preserved c =
     (search rules, below_more _ _ c.loop-c.invariant.1 (sym (c.has_slot.ensures _ _) ∙ c.if-has_slot.false))
 
 pub slots-preserved : goal.slots-preserved
-slots-preserved c =
-    (search rules, ⊎_elim (λ w. turn_wait _ _ _ _ _ _ _ c.slots.invariant.1 c.if-condition-ne-FAULTY.false (λ j h. c.loop-c.invariant.1 j (omega arith)) (omega arith) (sym (w.1.ensures _) ∙ w.2.left) w.3 c.faulty_byte.ensures) (λ w. turn_fetch _ _ _ _ _ _ _ c.slots.invariant.1 c.if-condition-ne-FAULTY.false _ (omega arith) w.0.left c.loop-c.invariant.1 (sym (w.1.ensures _ _) ∙ w.2.taken) w.3 c.faulty_byte.ensures) c.if-n-c.branch)
+slots-preserved c = (
+  search rules,
+  elim c.if-n-c.branch [
+    | then-n-c+else-may_truncate w ↦
+        turn_wait _ _ _ _ _ _ _ c.slots.invariant.1 c.if-condition-ne-FAULTY.false (λ j h. c.loop-c.invariant.1 j (omega arith)) (omega arith) (sym (w.may_truncate.ensures _) ∙ w.if-may_truncate.false) w.donor-is c.faulty_byte.ensures
+    | else-n-c+then-has_slot w ↦
+        turn_fetch _ _ _ _ _ _ _ c.slots.invariant.1 c.if-condition-ne-FAULTY.false _ (omega arith) w.if-n-c.false c.loop-c.invariant.1 (sym (w.has_slot.ensures _ _) ∙ w.if-has_slot.true) w.donor-is c.faulty_byte.ensures
+  ],
+)
 
 pub returns-after-slots : goal.returns-after-slots
 returns-after-slots c =

@@ -1,5 +1,6 @@
 -- `payload_span` finds the payload of a whole slot.
 use Prim.Native.Nat.{◌-◌}
+use mathlib.Core.Bool.{not}
 use mathlib.Core.Path.{sym, ap, ◌∙◌}
 use Rattle.image.proofs.CallLaws.{slots_high}
 use Rattle.image.proofs.ReadLaws.{opened_slots, opened_size, opened_card}
@@ -21,7 +22,7 @@ holds_payload-requires c =
 
 pub returns-then-not-holds_payload : goal.returns-then-not-holds_payload
 returns-then-not-holds_payload c =
-    (span_empty _, no_payload _ _ _ _ _ c.open_card-view.ensures.refusal _ (c.holds_payload.ensures _ (c.open_card-view.ensures.seen c.if-refusal-ne0.false).conditions_are) c.if-not-holds_payload.true)
+    (span_empty _, no_payload _ _ _ _ _ c.open_card-view.ensures.refusal _ (c.holds_payload.ensures _ (c.open_card-view.ensures.seen c.if-refusal-ne0.false).conditions_are) (ap not c.if-not-holds_payload.true))
 
 pub overflow_sub-slot : goal.overflow_sub-slot
 overflow_sub-slot c =

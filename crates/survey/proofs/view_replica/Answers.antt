@@ -25,4 +25,4 @@ view_image-requires c =
 
 pub returns : goal.returns
 returns c =
-    let both = view_there _ _ _ c.requires.1 c.requires.3 c.image_at-start.ensures c.image_size.ensures c.view_image.ensures in record { refusal = both.0; seen = both.1 }
+    let both = view_there _ _ _ c.requires.1 c.requires.3 c.image_at-start.ensures c.image_size.ensures (c.view_image.ensures.refusal, c.view_image.ensures.seen) in record { refusal = both.0; seen = both.1 }

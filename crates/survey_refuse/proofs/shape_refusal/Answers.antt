@@ -50,7 +50,7 @@ is_within-requires c =
 pub returns-then-not-is_within : goal.returns-then-not-is_within
 returns-then-not-is_within c =
     let a = c.args in
-    shape_set _ _ _ (is_slots_lem _ c.if-shape-lt1.false c.if-shape-gt-MAX_SLOTS.false) (sym c.is_size.ensures ∙ c.if-not-is_size.false) (tested _ c.is_edition.ensures (omega arith) (c.if-not-is_edition.false)) c.image_at.ensures c.if-size-image_at.false (bounded a.present a.shape.n c.is_Within.ensures (omega arith) (omega arith) (c.if-not-is_within.true))
+    shape_set _ _ _ (is_slots_lem _ c.if-shape-lt1.false c.if-shape-gt-MAX_SLOTS.false) (sym c.is_size.ensures ∙ c.if-not-is_size.false) (tested _ c.is_edition.ensures (omega arith) (c.if-not-is_edition.false)) c.image_at.ensures c.if-size-image_at.false (bounded a.present a.shape.n c.is_within.ensures (omega arith) (omega arith) (c.if-not-is_within.true))
 
 pub is_within-requires-2 : goal.is_within-requires-2
 is_within-requires-2 c =
@@ -59,9 +59,9 @@ is_within-requires-2 c =
 pub returns-then-not-is_within-2 : goal.returns-then-not-is_within-2
 returns-then-not-is_within-2 c =
     let a = c.args in
-    shape_witnesses _ _ _ (is_slots_lem _ c.if-shape-lt1.false c.if-shape-gt-MAX_SLOTS.false) (sym c.is_size.ensures ∙ c.if-not-is_size.false) (tested _ c.is_edition.ensures (omega arith) (c.if-not-is_edition.false)) c.image_at.ensures c.if-size-image_at.false (bounded a.present a.shape.n c.is_Within.ensures (omega arith) (omega arith) (c.if-not-is_within.false)) (bounded a.shape.witnesses a.shape.n c.is_within-2.ensures (omega arith) (omega arith) (c.if-not-is_within-2.true))
+    shape_witnesses _ _ _ (is_slots_lem _ c.if-shape-lt1.false c.if-shape-gt-MAX_SLOTS.false) (sym c.is_size.ensures ∙ c.if-not-is_size.false) (tested _ c.is_edition.ensures (omega arith) (c.if-not-is_edition.false)) c.image_at.ensures c.if-size-image_at.false (bounded a.present a.shape.n c.is_within.ensures (omega arith) (omega arith) (c.if-not-is_within.false)) (bounded a.shape.witnesses a.shape.n c.is_within-2.ensures (omega arith) (omega arith) (c.if-not-is_within-2.true))
 
 pub returns : goal.returns
 returns c =
     let a = c.args in
-    shape_none _ _ _ (is_slots_lem _ c.if-shape-lt1.false c.if-shape-gt-MAX_SLOTS.false) (sym c.is_size.ensures ∙ c.if-not-is_size.false) (tested _ c.is_edition.ensures (omega arith) (c.if-not-is_edition.false)) c.image_at.ensures c.if-size-image_at.false (bounded a.present a.shape.n c.is_Within.ensures (omega arith) (omega arith) (c.if-not-is_within.false)) (bounded a.shape.witnesses a.shape.n c.is_within-2.ensures (omega arith) (omega arith) (c.if-not-is_within-2.false))
+    shape_none _ _ _ (is_slots_lem _ c.if-shape-lt1.false c.if-shape-gt-MAX_SLOTS.false) (sym c.is_size.ensures ∙ c.if-not-is_size.false) (tested _ c.is_edition.ensures (omega arith) (c.if-not-is_edition.false)) c.image_at.ensures c.if-size-image_at.false (bounded a.present a.shape.n c.is_within.ensures (omega arith) (omega arith) (c.if-not-is_within.false)) (bounded a.shape.witnesses a.shape.n c.is_within-2.ensures (omega arith) (omega arith) (c.if-not-is_within-2.false))

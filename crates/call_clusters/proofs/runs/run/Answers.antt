@@ -3,24 +3,6 @@ use mathlib.Core.Path.{refl}
 use native.Mathlib.Omega.{arith}
 use Rattle.call_clusters.proofs.runs.run.Goals as goal
 
-pub run_spec : {M : Type 1} → statement M
-run_spec =
-    tie.close
-    (tie.spec
-    run-cluster-requires
-    enum-known-made
-    enum-known-spent
-    enum-known-waiting
-    enum-known-refusal
-    same_length
-    returns
-    same-length-2
-    returns-2
-    same-length-3
-    returns-3
-    same-length-4
-    returns-4)
-
 pub returns-in-Recovered : goal.returns-in-Recovered
 returns-in-Recovered c =
     let e = c.run_cluster.ensures in

@@ -3,24 +3,6 @@ use mathlib.Core.Path.{refl}
 use native.Mathlib.Omega.{arith}
 use Rattle.call_clusters.proofs.steps.step.Goals as goal
 
-pub step_spec : {M : Type 1} → statement M
-step_spec =
-    tie.close
-    (tie.spec
-    step-cluster-requires
-    enum-known-on
-    enum_told
-    enum-known-waiting
-    enum-known-refusal
-    same_length
-    returns
-    same-length-2
-    returns-2
-    same-length-3
-    returns-3
-    same-length-4
-    returns-4)
-
 pub returns-in-Stored : goal.returns-in-Stored
 returns-in-Stored c =
     let e = c.step_cluster.ensures in
