@@ -1,4 +1,6 @@
 // Appending to a card: an entry and its record.
+#![tactic(auto)]
+
 ghost use Rattle.std.specs.Prelude.{◌<◌, ◌≤◌, ◌≡◌, ◌||◌, eqb, leb, ltb, length};
 ghost use Rattle.record.specs.Layout.{max_payload};
 ghost use Rattle.image.specs.Refusal.{refuse, ◌else◌};

@@ -1,4 +1,6 @@
 // Appending to a witness: a record alone.
+#![tactic(auto)]
+
 ghost use Rattle.std.specs.Prelude.{◌<◌, ◌≤◌, ◌≡◌, length};
 ghost use Rattle.image.specs.Image.{record_at};
 ghost use Rattle.image.specs.Witness.{recorded, record_appended};

@@ -1,4 +1,6 @@
 // The calls that recover a cluster by steps and runs, for any lent bytes.
+#![tactic(auto)]
+
 pub mod steps; // steps.rt: one store
 pub mod runs; // runs.rt: stores while a budget lasts
 

@@ -1,4 +1,6 @@
 // The calls about one image: a fresh one of either kind, a card appended to and read, for any lent bytes.
+#![tactic(auto)]
+
 ghost use Rattle.call_images.specs.Images.{FormatCall, AppendCall, ReadCall};
 
 use image::refusal;

@@ -1,4 +1,6 @@
 // The calls about the payload of a slot, for any lent bytes.
+#![tactic(auto)]
+
 ghost use Rattle.call_payloads.specs.Payloads.{HasPayloadCall, PayloadCall};
 
 use image::refusal;

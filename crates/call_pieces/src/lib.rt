@@ -1,4 +1,6 @@
 // The calls about a checksum, a column or a header, for any lent bytes.
+#![tactic(auto)]
+
 ghost use Rattle.call_pieces.specs.Pieces.{ChecksumCall, WriteNumberCall, ReadColumnCall, WriteHeaderCall, JudgeHeaderCall};
 
 use column::ColumnState;

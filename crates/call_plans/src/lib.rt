@@ -1,4 +1,6 @@
 // The call that plans a cluster, for any lent bytes.
+#![tactic(auto)]
+
 ghost use Rattle.std.specs.Prelude.{◌≡◌};
 ghost use Rattle.planner.specs.Answers.{plan_numbers};
 ghost use Rattle.recovery.specs.Answers.{plan_result};

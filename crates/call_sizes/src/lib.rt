@@ -1,4 +1,6 @@
 // The calls that say sizes and offsets, for any shape.
+#![tactic(auto)]
+
 ghost use Rattle.std.specs.Prelude.{◌≡◌};
 ghost use Rattle.call_sizes.specs.Sizes.{slot_refusal, ImageSizeCall, ClusterSizeCall, ImageAtCall, RecordAtCall, EntryAtCall};
 

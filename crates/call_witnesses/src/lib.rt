@@ -1,4 +1,6 @@
 // The calls about one witness's image, for any lent bytes.
+#![tactic(auto)]
+
 ghost use Rattle.call_witnesses.specs.Witnesses.{WitnessAppendCall, WitnessReadCall};
 
 use image::refusal;

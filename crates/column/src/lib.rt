@@ -1,5 +1,7 @@
 // Fixed-width decimal columns.
 // Definitions and laws; the code is `spell`'s.
+#![tactic(auto)]
+
 ghost use Rattle.column.specs.Claims.{Exact};
 
 // What stands in a column: a number as it is written, nothing, or anything else.

@@ -1,4 +1,6 @@
 // The lines that are printed, as bytes.
+#![tactic(auto)]
+
 ghost use Rattle.std.specs.Prelude.{◌+◌, ◌*◌, ◌<◌, ◌≤◌, ◌≡◌, ◌++◌, length, take};
 ghost use Rattle.search.specs.Search.{joined};
 ghost use Rattle.slices.specs.Parts.{spliced};

@@ -1,4 +1,6 @@
 // Byte slices compared, copied and filled.
+#![tactic(auto)]
+
 ghost use Rattle.std.specs.Prelude.{◌≡◌, length, replicate, ◌+◌, ◌≤◌};
 ghost use Rattle.slices.specs.Same.{same};
 ghost use Rattle.slices.specs.Parts.{spliced};

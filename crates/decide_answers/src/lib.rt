@@ -1,5 +1,7 @@
 // What the replicas answer about a faulty slot of the leader.
 // A survey's numbers are lent: slot k of replica c stands at c * MAX_SLOTS + k. Replicas and slots count from 0 here.
+#![tactic(auto)]
+
 ghost use Rattle.std.specs.Prelude.{ℕ, ◌<◌, ◌≤◌, ◌≡◌, not, ◌&&◌, eqb};
 ghost use Rattle.search.specs.Search.{count};
 ghost use Rattle.search.specs.Sets.{has};

@@ -1,5 +1,7 @@
 // The plan byte of each slot of the leader.
 // A survey's numbers are lent: slot k of replica c stands at c * MAX_SLOTS + k. Replicas and slots count from 0 here.
+#![tactic(auto)]
+
 ghost use Rattle.std.specs.Prelude.{◌+◌, ◌<◌, ◌≤◌, ◌≡◌, cond, eqb, ltb, get_or};
 ghost use Rattle.search.specs.Search.{listed, lowest};
 ghost use Rattle.planner.specs.Rules.{end};

@@ -1,4 +1,6 @@
 // Demand 3: every list of plans, steps and runs with power failures anywhere; no earlier cut is safe.
+#![tactic(auto)]
+
 ghost use Rattle.demand3.specs.Demand3.{Demand3};
 ghost use Rattle.demand3.specs.Earliest.{Earliest};
 ghost use Rattle.demand3.specs.HeaderNeeded.{HeaderNeeded};

@@ -1,4 +1,6 @@
 // The example of demand 3: five replicas before and after their damage; payloads for all examples.
+#![tactic(auto)]
+
 ghost use Rattle.example.specs.Computed.{Computed};
 
 // What the definitions come to on this cluster, as a theorem.

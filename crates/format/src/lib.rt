@@ -1,4 +1,6 @@
 // Fresh images, a card's or a witness's.
+#![tactic(auto)]
+
 ghost use Rattle.std.specs.Prelude.{◌+◌, ◌*◌, ◌≤◌, ◌≡◌, cond, [], length};
 ghost use Rattle.search.specs.Search.{joined};
 ghost use Rattle.slices.specs.Parts.{spliced};

@@ -1,5 +1,7 @@
 // One image: what it means, its verdicts and refusals, and what appending does to it.
 // The code is `view`'s, `read`'s and `append`'s.
+#![tactic(auto)]
+
 ghost use Rattle.image.specs.LayoutClaim.{LayoutClaim};
 ghost use Rattle.image.specs.RefusalClaim.{RefusalClaim};
 ghost use Rattle.image.specs.ReadingClaim.{ReadingClaim};

@@ -1,4 +1,6 @@
 // Records and entries judged: each is what the writer writes, or it is not.
+#![tactic(auto)]
+
 ghost use Rattle.std.specs.Prelude.{◌+◌, ◌-◌, ◌≤◌, ◌≡◌, ◌++◌, length, take, drop, replicate};
 ghost use Rattle.slices.specs.Parts.{part};
 ghost use Rattle.slices.specs.Same.{same};

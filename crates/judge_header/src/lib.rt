@@ -1,4 +1,6 @@
 // A header judged: the writer's, with the index of its first slot, or not.
+#![tactic(auto)]
+
 ghost use Rattle.std.specs.Prelude.{◌≡◌, length};
 ghost use Rattle.slices.specs.Same.{same};
 ghost use Rattle.record.specs.Layout.{header_size, header_bytes};

@@ -1,5 +1,7 @@
 // Where things stand on a card and on a witness: sizes and offsets, said once for all code.
 // In bytes. Replicas and slots count from 0.
+#![tactic(auto)]
+
 ghost use Rattle.std.specs.Prelude.{suc, ◌+◌, ◌-◌, ◌<◌, ◌≤◌, ◌≡◌, false, ◌&&◌, leb};
 ghost use Rattle.record.specs.Layout.{is_witness, gives_first, header_size};
 ghost use Rattle.record.specs.Meaning.{is_first};

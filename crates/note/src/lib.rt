@@ -1,5 +1,7 @@
 // What a survey says once a store has been made, so that a run reads no image again.
 // Where a log begins no store changes. Slot k of replica c stands at c * MAX_SLOTS + k.
+#![tactic(auto)]
+
 ghost use Rattle.std.specs.Prelude.{ℕ, suc, ◌<◌, ◌≡◌, cond, ltb};
 ghost use Rattle.std.proofs.Math.Option.{some};
 ghost use Rattle.record.specs.declared.Shape.{Shape};

@@ -1,4 +1,6 @@
 // The first store still outstanding, of what is seen of the replicas.
+#![tactic(auto)]
+
 ghost use Rattle.std.specs.Prelude.{ℕ, ◌<◌, ◌≤◌, ◌≡◌, false, length};
 ghost use Rattle.planner.specs.Setting.{Setting};
 ghost use Rattle.planner.specs.Plan.{views_in};

@@ -1,5 +1,7 @@
 // A follower's first store still outstanding.
 // Slot k of replica c stands at c * MAX_SLOTS + k. Replicas and slots count from 0.
+#![tactic(auto)]
+
 ghost use Rattle.std.specs.Prelude.{◌<◌, ◌≡◌, length};
 ghost use Rattle.planner.specs.Setting.{Setting};
 ghost use Rattle.planner.specs.Plan.{views_in};

@@ -1,5 +1,7 @@
 // The leader's first store still outstanding.
 // Slot k of replica c stands at c * MAX_SLOTS + k. Replicas and slots count from 0.
+#![tactic(auto)]
+
 ghost use Rattle.std.specs.Prelude.{ℕ, ◌-◌, ◌<◌, ◌≤◌, ◌≡◌};
 ghost use Rattle.image.specs.View.{View};
 ghost use Rattle.planner.specs.Setting.{Setting};

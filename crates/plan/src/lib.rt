@@ -1,4 +1,6 @@
 // The planner's call: the plan and the table of a cluster.
+#![tactic(auto)]
+
 ghost use Rattle.std.specs.Prelude.{◌≡◌, length};
 ghost use Rattle.planner.specs.Answers.{plan_numbers, plan_call_numbers, plan_left, rows_left};
 

@@ -1,4 +1,6 @@
 // The plan of a cluster: its bytes filled, its answer and the rows of its table; refusal 13.
+#![tactic(auto)]
+
 ghost use Rattle.std.specs.Prelude.{ℕ, ◌≡◌, length};
 ghost use Rattle.image.specs.View.{View};
 ghost use Rattle.planner.specs.Setting.{Setting, setting_of};

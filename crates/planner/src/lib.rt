@@ -1,5 +1,7 @@
 // What the replicas answer about each damaged slot of the leader, and what is to be done about it.
 // The code is `survey`'s, `decide`'s, `tabulate`'s and `plan`'s.
+#![tactic(auto)]
+
 ghost use Rattle.planner.specs.AskingClaim.{AskingClaim};
 ghost use Rattle.planner.specs.ClusterRefusalClaim.{ClusterRefusalClaim};
 

@@ -1,4 +1,6 @@
 // The printing program's work: from the bytes of an input to the bytes of its output.
+#![tactic(auto)]
+
 ghost use Rattle.std.specs.Prelude.{ℕ, ◌+◌, ◌<◌, ◌≤◌, ◌≡◌, ◌++◌, length, get_or};
 ghost use Rattle.search.specs.Search.{joined};
 ghost use Rattle.image.specs.View.{View};

@@ -1,4 +1,6 @@
 // The printing program's command line.
+#![tactic(auto)]
+
 ghost use Rattle.std.specs.Prelude.{◌≡◌, ℕ, ◌<◌};
 ghost use Rattle.report.specs.Command.{command_of, command_line, present_of};
 

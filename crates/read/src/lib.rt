@@ -1,4 +1,6 @@
 // Reading a card for the caller: the length of its log, its epochs and its verdicts.
+#![tactic(auto)]
+
 ghost use Rattle.std.specs.Prelude.{◌≤◌, ◌≡◌, length, get_or};
 ghost use Rattle.search.specs.Search.{listed};
 ghost use Rattle.image.specs.Answers.{read_numbers, read_call_numbers, epochs_left, verdicts_left};

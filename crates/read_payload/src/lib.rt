@@ -1,4 +1,6 @@
 // Whether a slot has a payload, and where it stands.
+#![tactic(auto)]
+
 ghost use Rattle.std.specs.Prelude.{ℕ, ◌+◌, ◌-◌, ◌<◌, ◌≤◌, ◌≡◌, true, false, length, take};
 ghost use Rattle.slices.specs.Parts.{part};
 ghost use Rattle.record.specs.Layout.{is_witness, entry_size};

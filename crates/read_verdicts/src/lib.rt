@@ -1,4 +1,6 @@
 // The verdict of each slot.
+#![tactic(auto)]
+
 ghost use Rattle.std.specs.Prelude.{ℕ, ◌<◌, ◌≤◌, ◌≡◌, false, length};
 ghost use Rattle.record.specs.Layout.{is_witness};
 ghost use Rattle.record.specs.Meaning.{Entry};

@@ -1,4 +1,6 @@
 // Reading a witness for the caller: the length of its log and its epochs.
+#![tactic(auto)]
+
 ghost use Rattle.std.specs.Prelude.{◌≡◌, length};
 ghost use Rattle.image.specs.Answers.{read_numbers, witness_call_numbers, witness_epochs_left};
 

@@ -1,5 +1,7 @@
 // Headers, records and entries: what the writer writes, what bytes mean, and round trips.
 // Definitions and laws; the code is `write`'s and `judge`'s.
+#![tactic(auto)]
+
 ghost use Rattle.record.specs.Claims.{Exact, EditionOne, RoundTrip, ChangedPayload};
 
 // What a call names of its cluster: n replicas of m slots each, all of one edition, and the set of those that are witnesses. A header of

@@ -1,5 +1,7 @@
 // The answers of the calls of a recovery, and what the code of a step and of a run is proved with.
 // The code is `store`'s, `pick`'s, `note`'s, `step`'s and `run`'s.
+#![tactic(auto)]
+
 ghost use Rattle.recovery.specs.PlanCall.{PlanCall};
 
 pub mod kind; // kind.rt: the kinds of a store by number

@@ -1,5 +1,7 @@
 // The printing program's output as one function of its input; what a set means that is left blank.
 // The code is `print`'s.
+#![tactic(auto)]
+
 ghost use Rattle.report.specs.SetClaim.{SetClaim};
 
 // The set of a command line: a word, or the leader alone.

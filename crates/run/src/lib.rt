@@ -1,4 +1,6 @@
 // A run: as many steps as its budget allows, counted.
+#![tactic(auto)]
+
 ghost use Rattle.std.specs.Prelude.{ℕ, ◌<◌, ◌≡◌};
 ghost use Rattle.std.proofs.Math.Option.{some};
 ghost use Rattle.image.specs.Cluster.{decode};

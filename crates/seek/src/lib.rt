@@ -1,5 +1,7 @@
 // Looks for a slot: the lowest of a condition, to be fetched, or that differs.
 // And whether an entry differs. Slot k of replica c stands at c * MAX_SLOTS + k. Replicas and slots count from 0.
+#![tactic(auto)]
+
 ghost use Rattle.std.specs.Prelude.{◌+◌, ◌*◌, ◌<◌, ◌≤◌, ◌≡◌, not, ◌&&◌, eqb, ltb, length, get_or};
 ghost use Rattle.search.specs.Search.{lowest};
 ghost use Rattle.slices.specs.Parts.{part};

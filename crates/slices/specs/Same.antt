@@ -1,5 +1,5 @@
 -- Whether two lists of bytes are the same.
-use Rattle.std.specs.Prelude.{Bool, true, false, ◌&&◌, List, [], ◌∷◌, eqb}
+use Rattle.std.specs.Prelude.{Bool, true, false, ◌&&◌, [], ◌∷◌, eqb}
 use Rattle.slices.specs.Parts.{Bytes}
 
 unfoldable pub same : Bytes → Bytes → Bool

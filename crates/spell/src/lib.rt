@@ -1,4 +1,6 @@
 // Numbers in fixed-width columns: written, compared, and read strictly.
+#![tactic(auto)]
+
 ghost use Rattle.std.specs.Prelude.{◌<◌, ◌≤◌, ◌+◌, ◌≡◌, length};
 ghost use Rattle.slices.specs.Same.{same};
 ghost use Rattle.column.specs.Column.{column, digit_step, value_of};

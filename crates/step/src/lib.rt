@@ -1,4 +1,6 @@
 // A step: the plan is worked out afresh from the images, and the first store still outstanding is made.
+#![tactic(auto)]
+
 ghost use Rattle.std.specs.Prelude.{suc, ◌<◌, ◌≤◌, ◌≡◌};
 ghost use Rattle.protocol.specs.Call.{step};
 ghost use Rattle.protocol.specs.CallResult.{stored, step_result, call_result, call_bytes};

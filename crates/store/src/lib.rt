@@ -1,5 +1,7 @@
 // Stores made on the cluster's bytes.
 // Replicas and slots count from 0.
+#![tactic(auto)]
+
 ghost use Rattle.std.specs.Prelude.{◌+◌, ◌<◌, ◌≤◌, ◌≡◌, length};
 ghost use Rattle.slices.specs.Parts.{part, spliced};
 ghost use Rattle.record.specs.Layout.{entry_size, record_bytes, blank_record};

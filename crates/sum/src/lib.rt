@@ -1,4 +1,6 @@
 // The checksum of a slice of bytes, by additions, comparisons, subtractions and shifts only.
+#![tactic(auto)]
+
 ghost use Rattle.std.specs.Prelude.{◌≡◌, ◌+◌, ◌*◌, ◌%◌, ◌<◌, ◌≤◌, length};
 ghost use Rattle.checksum.specs.Checksum.{checksum_of, sum_a, sum_b};
 

@@ -1,4 +1,6 @@
 // What is seen of each replica, in numbers: each present image is read once.
+#![tactic(auto)]
+
 ghost use Rattle.std.specs.Prelude.{ℕ, ◌<◌, ◌≤◌, ◌≡◌, true, length};
 ghost use Rattle.image.specs.View.{is_size, is_slots, image_refusal};
 ghost use Rattle.image.specs.Seen.{Seen};

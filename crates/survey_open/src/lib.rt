@@ -1,4 +1,6 @@
 // A cluster's refusals, and its survey: what every call about a cluster begins with.
+#![tactic(auto)]
+
 ghost use Rattle.std.specs.Prelude.{◌-◌, ◌≡◌};
 ghost use Rattle.planner.specs.Setting.{setting_of};
 ghost use Rattle.planner.specs.Plan.{views_in, cluster_refusal};

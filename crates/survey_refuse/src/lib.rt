@@ -1,4 +1,6 @@
 // A cluster's refusals: 1 to 3, 11 and 22 of what a call names, 12 of its leader, 21 of what is seen.
+#![tactic(auto)]
+
 ghost use Rattle.std.specs.Prelude.{◌<◌, ◌≤◌, ◌≡◌, not};
 ghost use Rattle.image.specs.Refusal.{refuse};
 ghost use Rattle.planner.specs.Plan.{shape_refusal};

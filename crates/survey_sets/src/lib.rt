@@ -1,4 +1,6 @@
 // Sets of replicas as words: bit c, worth 2 to the power c, stands for replica c, counted from 0.
+#![tactic(auto)]
+
 ghost use Rattle.std.specs.Prelude.{◌<◌, ◌≡◌};
 ghost use Rattle.search.specs.Sets.{has};
 ghost use Rattle.planner.specs.Sets.{is_within, inserted};

@@ -1,4 +1,6 @@
 // What is seen of one replica copied to its place among all.
+#![tactic(auto)]
+
 ghost use Rattle.std.specs.Prelude.{◌<◌, ◌≡◌, length, get_or};
 ghost use Rattle.planner.specs.Survey.{Copied, number_as};
 

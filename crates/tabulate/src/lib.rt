@@ -1,4 +1,6 @@
 // The rows of the planner's table.
+#![tactic(auto)]
+
 ghost use Rattle.std.specs.Prelude.{ℕ, ◌<◌, ◌≤◌, ◌≡◌, true, length, get_or, take};
 ghost use Rattle.search.specs.Sets.{has};
 ghost use Rattle.planner.specs.Tabulated.{number_row, no_row, front_rows};

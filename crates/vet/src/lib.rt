@@ -1,4 +1,6 @@
 // Refusals of what a call about an image names: 1 to 3, and 20 of a fresh one.
+#![tactic(auto)]
+
 ghost use Rattle.std.specs.Prelude.{◌≡◌};
 ghost use Rattle.image.specs.View.{is_size, is_edition, named_refusal, call_refusal};
 ghost use Rattle.image.specs.Append.{format_refusal};

@@ -1,4 +1,6 @@
 // Refusals of what the scan of an image holds: 5 to 7; the length of its log.
+#![tactic(auto)]
+
 ghost use Rattle.std.specs.Prelude.{◌≤◌, ◌≡◌, not};
 ghost use Rattle.image.specs.Scan.{length_in, no_gap_in, none_lost_in, rising_in, scan_refusal};
 

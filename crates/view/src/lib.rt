@@ -1,4 +1,6 @@
 // What is seen of an image: each slot, the length of its log, and whether it is refused.
+#![tactic(auto)]
+
 ghost use Rattle.std.specs.Prelude.{◌+◌, ◌-◌, ◌≤◌, ◌≡◌, true, cond, eqb, length, get_or};
 ghost use Rattle.image.specs.Image.{image_size, decode_under, decode_image};
 ghost use Rattle.image.specs.View.{is_slots, image_refusal};

@@ -1,4 +1,6 @@
 // An image viewed as a call names it: refusals 1 to 7.
+#![tactic(auto)]
+
 ghost use Rattle.std.specs.Prelude.{◌≡◌};
 ghost use Rattle.image.specs.Image.{decode_image};
 ghost use Rattle.image.specs.View.{read_refusal, kind_refusal, card_refusal, witness_refusal};

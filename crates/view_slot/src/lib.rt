@@ -1,4 +1,6 @@
 // One slot of an image as its scan sees it: its condition and epoch.
+#![tactic(auto)]
+
 ghost use Rattle.std.specs.Prelude.{ℕ, ◌<◌, ◌≤◌, ◌≡◌, false, ◌||◌, List, eqb, length};
 ghost use Rattle.record.specs.Layout.{is_witness};
 ghost use Rattle.record.specs.Meaning.{Entry, good, bad};

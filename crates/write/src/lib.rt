@@ -1,4 +1,6 @@
 // Records and entries written over a slice of their size.
+#![tactic(auto)]
+
 ghost use Rattle.std.specs.Prelude.{◌+◌, ◌≤◌, ◌≡◌, length, take};
 ghost use Rattle.slices.specs.Parts.{spliced};
 ghost use Rattle.record.specs.Layout.{record_size, entry_size, max_payload, record_bytes, blank_record, entry_bytes, fresh_entry};

@@ -1,4 +1,6 @@
 // Headers written.
+#![tactic(auto)]
+
 ghost use Rattle.std.specs.Prelude.{◌≤◌, ◌≡◌, length, take};
 ghost use Rattle.slices.specs.Parts.{spliced};
 ghost use Rattle.record.specs.Layout.{header_word, header_size, header_bytes};
