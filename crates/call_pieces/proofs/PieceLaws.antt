@@ -1,7 +1,7 @@
 -- The two ends of every call about a column or a header: it is refused and leaves what it was lent, or it is answered. r and x are what the code
 -- answers and passes on.
 use Prim.Native.Nat.{ℕ, ◌≤◌, ◌<◌}
-use mathlib.Core.Path.{◌≡◌, refl, sym, ap, ◌∙◌}
+use mathlib.Core.Path.{◌≡◌, sym, ap, ◌∙◌}
 use lib.ListN.{length}
 use borrow.Author.Tests.{eq-eqb, ne_eqb, le-leb, lt-leb}
 use Rattle.slices.specs.Parts.{Bytes}

@@ -1,5 +1,5 @@
 -- A number in a column: decimal, right-justified with spaces, no sign and no leading zeros; zero is one `0`.
-use Rattle.std.specs.Prelude.{ℕ, zero, suc, ◌+◌, ◌*◌, ◌-◌, ◌/◌, ◌%◌, Bool, true, false, cond, ◌&&◌, List, [], ◌∷◌, ◌++◌, eqb, leb}
+use Rattle.std.specs.Prelude.{ℕ, zero, suc, ◌+◌, ◌*◌, ◌-◌, ◌/◌, ◌%◌, cond, ◌&&◌, [], ◌∷◌, ◌++◌, eqb, leb}
 use Rattle.slices.specs.Parts.{Bytes}
 
 -- the digits of x in w places, spaces in front of them, no digit at all for 0

@@ -1,6 +1,6 @@
 -- What demand 3 supposes makes the invariant true at first.
 use mathlib.Core.Path.{◌≡◌, refl, sym, ap, ◌∙◌}
-use mathlib.Core.Bool.{Bool, true, false, not, ◌&&◌, ◌||◌, true≢false}
+use mathlib.Core.Bool.{Bool, true, false, not, ◌&&◌, true≢false}
 use mathlib.Core.List.{[]}
 use Prim.Native.Nat.{ℕ, zero, suc, ◌+◌, ◌≤◌, ◌<◌}
 use native.Mathlib.Omega.{arith}
@@ -11,14 +11,14 @@ use Rattle.search.proofs.SearchLaws.{lowest_is, lowest_passes, lowest_le_passing
 use Rattle.search.proofs.CountLaws.{sum_le}
 use Rattle.slices.specs.Parts.{Bytes}
 use Rattle.slices.proofs.SameLaws.{and_left, and_right}
-use Rattle.record.specs.Meaning.{Header, proper, improper, first_index, Record, Entry, intact, broken}
+use Rattle.record.specs.Meaning.{Header, proper, first_index, Record, Entry, intact, broken}
 use Rattle.image.specs.Image.{Image, index}
 use Rattle.image.specs.Cluster.{Cluster}
 use Rattle.image.specs.View.{condition, condition_at, epoch_of, is_blank, is_proper, is_lost, epoch_at, log_length, view_of, seen_as}
 use Rattle.image.proofs.ViewLaws.{readable_sound}
 use Rattle.planner.specs.Setting.{Setting, witness, views_of}
 use Rattle.planner.specs.Rules.{majority}
-use Rattle.demand3.specs.Supposed.{History, DamagedSlot, undamaged, record_bad, entry_bad, DamagedRecord, record_good, record_spoilt, DamagedHeader, own_header, no_header, DamagedAs, card_left, witness_left, Within, SameUpTo, Agree, held, committed, Supposed}
+use Rattle.demand3.specs.Supposed.{History, DamagedSlot, undamaged, record_bad, entry_bad, DamagedRecord, record_good, record_spoilt, DamagedHeader, own_header, no_header, DamagedAs, card_left, witness_left, Within, Agree, held, committed, Supposed}
 use Rattle.protocol.proofs.Consistency.{Consistent}
 use Rattle.protocol.proofs.HoldingLaws.{Holding}
 use Rattle.protocol.proofs.Invariant.{Inv}

@@ -1,7 +1,7 @@
 -- Without witnesses demand 3 supposes what document 01 says.
 use Prim.Native.Nat.{ℕ, ◌≤◌, ◌<◌}
-use mathlib.Core.Path.{◌≡◌, refl, sym, ap, ◌∙◌, subst, fun_ext}
-use mathlib.Core.Bool.{Bool, true, false, not, ◌&&◌, ◌||◌}
+use mathlib.Core.Path.{◌≡◌, sym, subst, fun_ext}
+use mathlib.Core.Bool.{Bool, true, false, not, ◌&&◌}
 use native.Mathlib.Omega.{arith}
 use native.Mathlib.Decide.{dec_lt}
 use Rattle.search.specs.Search.{lowest, count}
@@ -10,12 +10,11 @@ use Rattle.search.proofs.CountLaws.{count_none}
 use Rattle.slices.specs.Parts.{Bytes}
 use Rattle.slices.specs.Same.{same}
 use Rattle.slices.proofs.SameLaws.{and_left, and_right, same_true}
-use Rattle.record.specs.declared.Shape.{Shape}
 use Rattle.record.proofs.LayoutLaws.{no_witness}
 use Rattle.image.specs.Cluster.{Cluster}
 use Rattle.planner.specs.Setting.{Setting, witness}
 use Rattle.planner.specs.Rules.{majority}
-use Rattle.demand3.specs.Supposed.{History, card_left, SameUpTo, Agree, held, committed, OnCard, Supposed}
+use Rattle.demand3.specs.Supposed.{History, card_left, Agree, held, committed, OnCard, Supposed}
 use Rattle.demand3.specs.Before.{Flight, card_before, card_damage, history_of, DamagedCluster}
 use Rattle.demand3.specs.Cards.{AgreeCards, SupposedCards, DamagedCards}
 

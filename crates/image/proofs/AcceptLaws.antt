@@ -9,7 +9,7 @@ use borrow.Author.Tests.{eqb-false, ne_eqb, ltb-false, leb-false, lt-ltb, le-ltb
 use Rattle.slices.specs.Parts.{Bytes, part}
 use Rattle.record.specs.declared.Shape.{Shape}
 use Rattle.record.specs.Layout.{is_witness}
-use Rattle.record.specs.Meaning.{Record, good, blank, bad, Entry, intact, broken, read_record, read_entry}
+use Rattle.record.specs.Meaning.{Record, good, blank, bad, Entry, intact, broken, read_record}
 use Rattle.record.proofs.RecordLaws.{good_for, epoch_low}
 use Rattle.record.proofs.EntryLaws.{intact_for}
 use Rattle.image.specs.Refusal.{refuse, ◌else◌}

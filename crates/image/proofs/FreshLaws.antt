@@ -30,7 +30,7 @@ use Rattle.image.proofs.RefusalLaws.{else_zero}
 use Rattle.image.proofs.CallLaws.{formatted_first, formatted_call}
 use Rattle.image.proofs.ViewLaws.{Sound, sound_intro}
 use Rattle.image.proofs.VerdictLaws.{verdict_unused}
-use Rattle.image.proofs.DecodeLaws.{entries_card, entries_witness, first_is, entry_there}
+use Rattle.image.proofs.DecodeLaws.{first_is, entry_there}
 
 -- one of several parts of one size
 pub joined_part : (b s : ℕ) (f : ℕ → Bytes) (k : ℕ) → ((j : ℕ) → j < b → length (f j) ≡ s) → k < b → part (joined b f) (s * k) s ≡ f k

@@ -1,5 +1,5 @@
 -- Whether a slot has a payload, and where it stands.
-use Prim.Native.Nat.{ℕ, suc, ◌+◌, ◌-◌, ◌≤◌, ◌<◌}
+use Prim.Native.Nat.{ℕ, ◌+◌, ◌-◌, ◌≤◌, ◌<◌}
 use mathlib.Core.Path.{◌≡◌, refl, sym, ap, ◌∙◌}
 use mathlib.Core.Bool.{Bool, true, false, not, ◌&&◌, ◌||◌}
 use mathlib.Core.List.{List}
@@ -18,7 +18,7 @@ use Rattle.record.specs.Judged.{entry_answer}
 use Rattle.record.specs.declared.EntryState.{EntryState}
 use Rattle.record.specs.declared.EntryState.TheVariants.{Intact, Broken}
 use Rattle.record.proofs.EntryLaws.{intact_for, intact_payload, intact_part}
-use Rattle.image.specs.Image.{Image, image_size, index, entry_at, decode_under, decode_image}
+use Rattle.image.specs.Image.{Image, index, entry_at, decode_under, decode_image}
 use Rattle.image.specs.View.{Condition, Unused, Whole, RecordLost, Faulty, Lost, RecordOnly, condition, condition_at, card_refusal}
 use Rattle.image.specs.View.{condition_number}
 use Rattle.image.specs.Seen.{conditions_of}

@@ -2,10 +2,10 @@
 use Prim.Native.Nat.{ℕ}
 use mathlib.Core.Path.{◌≡◌, refl, sym, ap, ◌∙◌}
 use mathlib.Core.Bool.{true, false}
-use mathlib.Core.List.{List, [], ◌∷◌}
+use mathlib.Core.List.{List}
 use native.Mathlib.Omega.{arith}
 use lib.ListN.{take}
-use Rattle.slices.specs.Parts.{Bytes, part}
+use Rattle.slices.specs.Parts.{Bytes}
 use Rattle.slices.proofs.PartLaws.{part_take}
 use Rattle.record.specs.declared.Shape.{Shape}
 use Rattle.record.specs.declared.HeaderState.{HeaderState}
@@ -14,7 +14,7 @@ use Rattle.record.specs.Layout.{header_size}
 use Rattle.record.specs.Meaning.{Header, proper, improper, first_index, read_header}
 use Rattle.record.specs.Judged.{header_answer}
 use Rattle.image.specs.Refusal.{refuse, ◌else◌}
-use Rattle.image.specs.Image.{Image, decode_under, first_in, decode_image}
+use Rattle.image.specs.Image.{decode_under, first_in, decode_image}
 use Rattle.image.specs.View.{is_proper, image_refusal}
 use Rattle.image.specs.Seen.{Seen}
 use Rattle.image.specs.Scan.{Scanned, length_in, scan_refusal}

@@ -20,7 +20,7 @@ use Rattle.record.specs.Judged.{entry_answer}
 use Rattle.record.specs.declared.EntryState.{EntryState}
 use Rattle.record.specs.declared.EntryState.TheVariants.{Intact, Broken}
 use Rattle.record.proofs.EntryLaws.{entry_is, fresh_not_intact}
-use Rattle.image.specs.Image.{Image, image_size, entry_at, index, decode_under}
+use Rattle.image.specs.Image.{Image, entry_at, index, decode_under}
 use Rattle.image.specs.View.{Condition, Unused, Whole, RecordLost, Faulty, Lost, RecordOnly, condition_at}
 use Rattle.image.specs.View.{condition_number}
 use Rattle.image.specs.Seen.{conditions_of}

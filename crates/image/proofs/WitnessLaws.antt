@@ -1,24 +1,24 @@
 -- A witness's image (02, Seven): reading it, an append of an epoch, and a list of them.
-use Prim.Native.Nat.{ℕ, suc, ◌-◌, ◌≤◌, ◌<◌}
+use Prim.Native.Nat.{ℕ, suc, ◌≤◌, ◌<◌}
 use mathlib.Core.Path.{◌≡◌, refl, sym, ap, ◌∙◌}
 use mathlib.Core.Bool.{Bool, true, false, cond, true≢false, not}
 use mathlib.Core.List.{List, [], ◌∷◌, ◌++◌, append-nil}
 use native.Mathlib.Omega.{arith}
 use native.Mathlib.Decide.{ℕ_discrete}
 use lib.Dec.{eqb}
-use lib.ListN.{length, get_or, replicate, length-append, get_or-append}
+use lib.ListN.{length, get_or, length-append, get_or-append}
 use lib.Seq.{get_or_at, append_snoc}
 use Rattle.search.proofs.UpdateLaws.{put_same, put_other}
-use Rattle.slices.specs.Parts.{Bytes, spliced}
+use Rattle.slices.specs.Parts.{Bytes}
 use Rattle.slices.proofs.SpliceLaws.{length_spliced}
 use Rattle.record.specs.declared.Shape.{Shape}
 use Rattle.record.specs.Layout.{is_witness, record_bytes}
-use Rattle.record.specs.Meaning.{first_index, Record, good, blank, bad, Entry, intact, broken, is_epoch}
+use Rattle.record.specs.Meaning.{first_index, Record, good, bad, Entry, intact, broken, is_epoch}
 use Rattle.record.proofs.LayoutLaws.{length_record}
 use Rattle.record.proofs.RecordLaws.{read_good, is_epoch_lem}
 use Rattle.image.specs.Image.{Image, index, image_size, record_at, first_in, decode_image, fresh_image}
 use Rattle.image.specs.SetSlot.{set_record}
-use Rattle.image.specs.View.{Whole, Faulty, condition, epoch_of, is_lost, condition_at, epoch_at, log_length, read_refusal, witness_refusal}
+use Rattle.image.specs.View.{Whole, Faulty, condition, epoch_of, is_lost, condition_at, epoch_at, log_length, witness_refusal}
 use Rattle.image.specs.Read.{epochs_of}
 use Rattle.image.specs.Append.{format_refusal}
 use Rattle.image.specs.Witness.{record_refusal, recorded, record_appended}

@@ -1,5 +1,5 @@
 -- Document 01, "Appending": the entry and then the record of the first unused slot of a card; and a fresh image, a witness's too.
-use Rattle.std.specs.Prelude.{ℕ, suc, ◌-◌, Bool, cond, not, ◌&&◌, ◌||◌, List, [], ◌∷◌, eqb, leb, ltb, length}
+use Rattle.std.specs.Prelude.{ℕ, ◌-◌, cond, not, ◌||◌, eqb, leb, ltb, length}
 use Rattle.slices.specs.Parts.{Bytes, spliced}
 use Rattle.record.specs.declared.Shape.{Shape}
 use Rattle.record.specs.Layout.{record_bytes, entry_bytes}

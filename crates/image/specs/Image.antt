@@ -1,6 +1,6 @@
 -- An image taken apart: document 01's card image as a header, and a record and an entry for each slot; a witness's image, which has no
 -- entries (02, Seven). Slots count from 0 here.
-use Rattle.std.specs.Prelude.{ℕ, suc, ◌+◌, ◌*◌, cond, [], ◌++◌, ltb}
+use Rattle.std.specs.Prelude.{ℕ, ◌+◌, ◌*◌, cond, [], ◌++◌, ltb}
 use Rattle.search.specs.Search.{joined}
 use Rattle.slices.specs.Parts.{Bytes, part}
 use Rattle.record.specs.declared.Shape.{Shape}

@@ -1,13 +1,13 @@
 -- Document 01, "Reading one image": the answers of reading a card's image and of asking for a payload, and what the lent buffers hold then.
-use Rattle.std.specs.Prelude.{ℕ, suc, ◌+◌, ◌-◌, Bool, true, false, cond, not, ◌&&◌, ◌||◌, List, [], ◌∷◌, eqb, leb, length}
+use Rattle.std.specs.Prelude.{ℕ, ◌+◌, ◌-◌, Bool, cond, not, ◌&&◌, ◌||◌, List, [], eqb, leb}
 use Rattle.search.specs.Search.{listed}
 use Rattle.slices.specs.Parts.{Bytes, part}
 use Rattle.record.specs.declared.Shape.{Shape}
 use Rattle.record.specs.Layout.{entry_size}
-use Rattle.record.specs.Meaning.{Entry, intact, broken, entry_payload}
+use Rattle.record.specs.Meaning.{entry_payload}
 use Rattle.image.specs.Refusal.{refuse, ◌else◌}
 use Rattle.image.specs.Image.{Image, decode_image, entry_at}
-use Rattle.image.specs.View.{card_refusal, log_length, epoch_at, condition_at, Condition, condition_number}
+use Rattle.image.specs.View.{card_refusal, epoch_at, condition_at, Condition, condition_number}
 use Rattle.image.specs.Verdict.{verdict_at}
 
 -- 13 if a lent buffer (epochs, verdicts) has the wrong length, after all else that applies

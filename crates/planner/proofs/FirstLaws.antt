@@ -12,7 +12,6 @@ use Rattle.slices.specs.Parts.{Bytes}
 use Rattle.slices.proofs.SameLaws.{clash}
 use Rattle.search.specs.Search.{all}
 use Rattle.search.proofs.SearchLaws.{all_elim, all_intro, all_off, all_cong}
-use Rattle.record.specs.declared.Shape.{Shape}
 use Rattle.record.proofs.LayoutLaws.{gives_other}
 use Rattle.record.proofs.HeaderLaws.{read_first_one}
 use Rattle.image.specs.Refusal.{refuse}
@@ -20,7 +19,7 @@ use Rattle.image.specs.Image.{first_in, decode_under, decode_image}
 use Rattle.image.specs.View.{View, view_of, seen_as}
 use Rattle.image.specs.Cluster.{first_at, decode}
 use Rattle.search.specs.Sets.{has}
-use Rattle.planner.specs.Setting.{Setting, setting_of, views_of}
+use Rattle.planner.specs.Setting.{Setting, views_of}
 use Rattle.planner.specs.Rules.{same_firsts}
 use Rattle.planner.specs.Plan.{views_in}
 use Rattle.planner.specs.Survey.{Surveyed, same_numbers}

@@ -9,7 +9,7 @@ use lib.Dec.{eqb, ltb}
 use lib.ListN.{length, get_or, set, replicate, length-set}
 use lib.Seq.{get_or-set_same, get_or-set_other}
 use borrow.Author.Tests.{eq-eqb, ne_eqb, lt-ltb, le-ltb, ltb-true, ltb-false}
-use Rattle.search.specs.Search.{lowest, count, listed}
+use Rattle.search.specs.Search.{count, listed}
 use Rattle.search.proofs.SearchLaws.{lowest_is, lowest_le}
 use Rattle.search.proofs.ListedLaws.{listed_ext}
 use Rattle.image.specs.View.{View}

@@ -1,10 +1,10 @@
 -- What a witness answers.
 use Prim.Native.Nat.{ℕ}
-use mathlib.Core.Path.{◌≡◌, refl, ap, ◌∙◌}
-use mathlib.Core.Bool.{Bool, true, false, cond, not, ◌&&◌, ◌||◌}
+use mathlib.Core.Path.{◌≡◌, refl}
+use mathlib.Core.Bool.{Bool, true, false, cond, not}
 use lib.Dec.{eqb}
 use Rattle.slices.proofs.SameLaws.{and_off}
-use Rattle.record.specs.Meaning.{Record, good, blank, Entry, intact, broken}
+use Rattle.record.specs.Meaning.{good, blank, Entry, intact, broken}
 use Rattle.image.specs.Cluster.{Cluster}
 use Rattle.image.specs.View.{View, Condition, Unused, Whole, RecordLost, Faulty, Lost, RecordOnly, condition, epoch_of, condition_at, epoch_at, view_of, condition_as, seen_as}
 use Rattle.image.specs.Read.{is_whole}

@@ -4,7 +4,7 @@ use Rattle.image.specs.View.{View}
 use Rattle.image.specs.Answers.{Numbered, value}
 use Rattle.search.specs.Sets.{has}
 use Rattle.planner.specs.Setting.{Setting}
-use Rattle.planner.specs.Rules.{Waiting, Ready, answer}
+use Rattle.planner.specs.Rules.{answer}
 use Rattle.planner.specs.declared.PlanAnswer.{PlanAnswer}
 use Rattle.planner.specs.declared.ReplicaRow.{ReplicaRow}
 use Rattle.planner.specs.Answers.{plan_numbers, plan_numbered, rows_of}

@@ -1,7 +1,7 @@
 -- What a call answers and leaves, by whether it is refused and by the planner's answer.
 use Prim.Native.Nat.{ℕ, zero, suc, pred, ◌<◌}
 use mathlib.Core.Path.{◌≡◌, refl, sym, ap, ◌∙◌}
-use mathlib.Core.Bool.{Bool, true, false, cond, not}
+use mathlib.Core.Bool.{Bool, true, false, cond}
 use native.Mathlib.Omega.{arith}
 use native.Mathlib.Decide.{ℕ_discrete}
 use lib.Dec.{ltb}
@@ -15,7 +15,7 @@ use Rattle.image.specs.View.{View}
 use Rattle.image.proofs.RefusalLaws.{refuse_off, else_zero_l}
 use Rattle.planner.specs.Setting.{Setting, setting_of}
 use Rattle.planner.specs.Rules.{Answer, Refused, Waiting, Ready, answer, first_waiting, end, may_lead, same_firsts}
-use Rattle.planner.specs.Plan.{views_in, cluster_refusal, lent_refusal, plan_refusal}
+use Rattle.planner.specs.Plan.{views_in, lent_refusal, plan_refusal}
 use Rattle.planner.proofs.ShapeLaws.{shaped_slots, shaped_size, shaped_edition, shaped_bytes}
 use Rattle.planner.proofs.CallLaws.{lead_accepted, lead_reads, leader_accepted, firsts_accepted, cluster_shaped, cluster_cong}
 use Rattle.protocol.specs.StepBytes.{next_in, steps_bytes, stores_bytes}

@@ -11,7 +11,7 @@ use Rattle.slices.specs.Parts.{Bytes}
 use Rattle.record.specs.Meaning.{Record, good, blank, bad, Entry, intact, broken}
 use Rattle.image.specs.Cluster.{Cluster}
 use Rattle.image.specs.SetSlot.{set_entry, set_record}
-use Rattle.image.specs.View.{condition, epoch_of, condition_at, epoch_at, view_of, condition_as, seen_as}
+use Rattle.image.specs.View.{condition, epoch_of, condition_at, epoch_at, view_of, seen_as}
 use Rattle.image.proofs.StoreLaws.{entry_off}
 use Rattle.planner.specs.Setting.{Setting, witness, views_of}
 use Rattle.planner.specs.Rules.{is_faulty, is_record_lost, donor}

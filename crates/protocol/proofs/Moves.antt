@@ -1,6 +1,6 @@
 -- The store that is due, made: how the views change (`moved`).
 use mathlib.Core.Path.{◌≡◌, refl, sym, ap, ◌∙◌}
-use mathlib.Core.Bool.{Bool, true, false, or-true}
+use mathlib.Core.Bool.{true, false, or-true}
 use Prim.Native.Nat.{ℕ, ◌≤◌, ◌<◌}
 use native.Mathlib.Omega.{arith}
 use Rattle.search.specs.Put.{put}
@@ -10,14 +10,14 @@ use Rattle.record.specs.Meaning.{good, blank, Entry, intact}
 use Rattle.image.specs.Image.{Image}
 use Rattle.image.specs.SetSlot.{set_record, set_entry}
 use Rattle.image.specs.Cluster.{Cluster}
-use Rattle.image.specs.View.{View, Condition, Unused, Whole, RecordLost, Faulty, Lost, RecordOnly, condition, view_of, condition_at, seen_as}
+use Rattle.image.specs.View.{View, Condition, Unused, Whole, RecordLost, Faulty, Lost, RecordOnly, condition, seen_as}
 use Rattle.image.proofs.StoreLaws.{entry_at_lem, entry_off, record_off}
-use Rattle.planner.specs.Setting.{Setting, witness, views_of}
+use Rattle.planner.specs.Setting.{Setting, views_of}
 use Rattle.planner.specs.Rules.{is_faulty, is_record_lost, answers, Keep, is_truncate, is_wait, rule, donor, end}
 use Rattle.protocol.specs.Store.{Store}
 use Rattle.protocol.specs.ClusterSteps.{after_store}
 use Rattle.protocol.specs.Recovery.{first_differing, unlike}
-use Rattle.protocol.proofs.Effects.{view, is_complete, faulty_card, Blanked, Mended, Appended, blank_effect, mend_effect, write_effect, append_effect, fill_effect}
+use Rattle.protocol.proofs.Effects.{view, is_complete, Blanked, Mended, Appended, blank_effect, mend_effect, write_effect, append_effect, fill_effect}
 use Rattle.protocol.proofs.ReadyPlan.{ReadyPlan}
 use Rattle.protocol.proofs.LeaderDue.{LeaderDone, LeaderDue, leader_blank, leader_fetch, leader_write}
 use Rattle.protocol.proofs.FollowerDue.{FollowerDue, follower_blank, follower_mend, follower_write, follower_fill, follower_append}

@@ -10,7 +10,7 @@ use Rattle.record.specs.Meaning.{good, blank, Entry, intact}
 use Rattle.image.specs.Image.{Image}
 use Rattle.image.specs.SetSlot.{set_entry, set_record}
 use Rattle.image.specs.Cluster.{Cluster}
-use Rattle.image.specs.View.{log_length, condition, view_of, condition_at, condition_as, seen_as}
+use Rattle.image.specs.View.{log_length, condition, view_of, condition_at, seen_as}
 use Rattle.image.specs.Read.{is_whole}
 use Rattle.image.proofs.ViewLaws.{readable_sound}
 use Rattle.image.proofs.StoreLaws.{entry_at_lem, entry_off, record_off}

@@ -1,5 +1,5 @@
 -- The tests of a record decide whether it is good, blank or bad.
-use Prim.Native.Nat.{ℕ, ◌+◌, ◌≤◌}
+use Prim.Native.Nat.{ℕ, ◌≤◌}
 use mathlib.Core.Path.{◌≡◌, refl, sym, ◌∙◌, ap}
 use mathlib.Core.Bool.{Bool, not, true, false, ◌&&◌}
 use mathlib.Core.List.{◌++◌}

@@ -1,5 +1,5 @@
 -- Document 01, "Reference places": the starred ones.
-use Rattle.std.specs.Prelude.{◌≡◌, List, [], ◌∷◌, ◌++◌}
+use Rattle.std.specs.Prelude.{◌≡◌, [], ◌∷◌, ◌++◌}
 use Rattle.slices.specs.Parts.{part}
 use Rattle.checksum.specs.Checksum.{checksum_of}
 use Rattle.column.specs.Column.{column}

@@ -1,12 +1,9 @@
 use Prim.Native.Nat.{◌<◌}
-use mathlib.Core.Path.{◌∙◌, ap}
 use native.Mathlib.Omega.{arith}
 use native.Mathlib.Numerals.{add-one}
 use borrow.Author.Rules.{rules}
-use lib.ListN.{length, set}
-use mathlib.Core.List.{List}
-use Rattle.planner.specs.declared.ReplicaRow.{ReplicaRow}
-use Rattle.planner.proofs.FrontLaws.{front_none, front_length, front_more}
+use lib.ListN.{length}
+use Rattle.planner.proofs.FrontLaws.{front_none, front_more}
 use Rattle.tabulate.proofs.fill_rows.Goals as goal
 
 pub loop-c-init : goal.loop-c-init
