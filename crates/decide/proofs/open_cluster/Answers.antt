@@ -6,17 +6,17 @@ use Rattle.decide.proofs.open_cluster.Goals as goal
 
 pub returns-then-refusal-ne0 : goal.returns-then-refusal-ne0
 returns-then-refusal-ne0 c =
-    record { refusal = c.view_cluster-view.ensures.0; opened = λ e. absurd (c.if-refusal-ne0.true (omega (arith, e))) }
+    record { refusal = c.view_cluster-view.ensures.refusal; opened = λ e. absurd (c.if-refusal-ne0.true (omega (arith, e))) }
 
 pub overflow_sub-leader : goal.overflow_sub-leader
 overflow_sub-leader c =
-    omega (arith, leader_first _ _ _ _ (sym c.view_cluster-view.ensures.0 ∙ c.if-refusal-ne0.false))
+    omega (arith, leader_first _ _ _ _ (sym c.view_cluster-view.ensures.refusal ∙ c.if-refusal-ne0.false))
 
 pub plan_survey-plan-requires : goal.plan_survey-plan-requires
 plan_survey-plan-requires c =
-    survey_asks (c.view_cluster-view.ensures.1 c.if-refusal-ne0.false)
+    survey_asks (c.view_cluster-view.ensures.survey c.if-refusal-ne0.false)
 
 pub returns : goal.returns
 returns c =
     let v = c.view_cluster-view.ensures in
-    record { refusal = v.0; opened = λ e. record { survey_is = v.1 e; plan_is = c.plan_survey-plan.ensures _ _ (v.1 e) } }
+    record { refusal = v.refusal; opened = λ e. record { survey_is = v.survey e; plan_is = c.plan_survey-plan.ensures _ _ (v.survey e) } }

@@ -6,11 +6,11 @@ use Rattle.print.proofs.report_cluster.Goals as goal
 
 pub returns-then-refusal-ne0 : goal.returns-then-refusal-ne0
 returns-then-refusal-ne0 c =
-    law.prints (law.refused_report _ _ _ _ c.open_cluster-opening.ensures.0 c.if-refusal-ne0.true) c.report_refusal.ensures
+    law.prints (law.refused_report _ _ _ _ c.open_cluster-opening.ensures.refusal c.if-refusal-ne0.true) c.report_refusal.ensures
 
 pub report_plan-requires : goal.report_plan-requires
 report_plan-requires c =
-    let a = survey_asks (c.open_cluster-opening.ensures.1 c.if-refusal-ne0.false).survey_is in
+    let a = survey_asks (c.open_cluster-opening.ensures.opened c.if-refusal-ne0.false).survey_is in
     (omega arith, a.2)
 
 pub returns : goal.returns

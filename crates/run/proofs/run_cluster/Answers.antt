@@ -27,7 +27,7 @@ returns-then-refusal-ne0 c =
     let N = numbers a.shape a.leading a.present in
     let b = a.cluster.now in
     let o = c.open_cluster-opening.ensures in
-    record { answer = refused_run N b refl (sym o.0, c.if-refusal-ne0.true) a.budget; bytes = refused_run_bytes N b refl (sym o.0, c.if-refusal-ne0.true) a.budget }
+    record { answer = refused_run N b refl (sym o.refusal, c.if-refusal-ne0.true) a.budget; bytes = refused_run_bytes N b refl (sym o.refusal, c.if-refusal-ne0.true) a.budget }
 
 pub returns-then-plan : goal.returns-then-plan
 returns-then-plan c =
@@ -36,8 +36,8 @@ returns-then-plan c =
     let b = a.cluster.now in
     let o = c.open_cluster-opening.ensures in
     let t : c.open_cluster-opening.result.refusal ≡ 0 = omega arith in
-    let e = sym o.0 ∙ t in
-    let w = o.1 t in
+    let e = sym o.refusal ∙ t in
+    let w = o.opened t in
     let i = waits N b e w.survey_is w.plan_is {slot = c.open_cluster-opening.result.plan.waiting + 1} (omega arith) (omega arith) in
     record { answer = waiting_run N b refl i a.budget (omega arith); bytes = waiting_run_bytes N b refl i a.budget }
 
@@ -48,8 +48,8 @@ first_store-store-requires c =
     let b = a.cluster.now in
     let o = c.open_cluster-opening.ensures in
     let t : c.open_cluster-opening.result.refusal ≡ 0 = omega arith in
-    let e = sym o.0 ∙ t in
-    let w = o.1 t in
+    let e = sym o.refusal ∙ t in
+    let w = o.opened t in
     (in_range N b e w.survey_is, end_fits N b e w.survey_is w.plan_is)
 
 pub loop-made-init : goal.loop-made-init
@@ -59,8 +59,8 @@ loop-made-init c =
     let b = a.cluster.now in
     let o = c.open_cluster-opening.ensures in
     let t : c.open_cluster-opening.result.refusal ≡ 0 = omega arith in
-    let e = sym o.0 ∙ t in
-    let w = o.1 t in
+    let e = sym o.refusal ∙ t in
+    let w = o.opened t in
     let s = w.survey_is in
     let i = readies N b e s w.plan_is (omega arith) c.first_store-store.result (c.first_store-store.ensures (named N) (sees N b e s) w.plan_is) in
     noting_start N b _ a.budget _ _ i (record { accepts = e; sees = s; ready = i.1 })

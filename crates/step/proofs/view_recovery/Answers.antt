@@ -14,8 +14,8 @@ returns-then-waiting-end c =
     let b = a.cluster.now in
     let o = c.open_cluster-opening.ensures in
     let t : c.open_cluster-opening.result.refusal ≡ 0 = omega arith in
-    let e = sym o.0 ∙ t in
-    let w = o.1 t in
+    let e = sym o.refusal ∙ t in
+    let w = o.opened t in
     waits N b e w.survey_is w.plan_is (omega arith) (omega arith)
 
 pub first_store-store-requires : goal.first_store-store-requires
@@ -25,14 +25,14 @@ first_store-store-requires c =
     let b = a.cluster.now in
     let o = c.open_cluster-opening.ensures in
     let t : c.open_cluster-opening.result.refusal ≡ 0 = omega arith in
-    let e = sym o.0 ∙ t in
-    let w = o.1 t in
+    let e = sym o.refusal ∙ t in
+    let w = o.opened t in
     (in_range N b e w.survey_is, end_fits N b e w.survey_is w.plan_is)
 
 pub offset_bounds-survey-leader : goal.offset_bounds-survey-leader
 offset_bounds-survey-leader c =
     let o = c.open_cluster-opening.ensures in
-    let v = (o.1 (omega arith)).survey_is in
+    let v = (o.opened (omega arith)).survey_is in
     let l = v.leader_below in
     let n = v.few in
     search rules
@@ -40,7 +40,7 @@ offset_bounds-survey-leader c =
 pub bounds-survey-leader : goal.bounds-survey-leader
 bounds-survey-leader c =
     let o = c.open_cluster-opening.ensures in
-    let v = (o.1 (omega arith)).survey_is in
+    let v = (o.opened (omega arith)).survey_is in
     let l = v.leader_below in
     let n = v.few in
     search rules
@@ -52,7 +52,7 @@ returns c =
     let b = a.cluster.now in
     let o = c.open_cluster-opening.ensures in
     let t : c.open_cluster-opening.result.refusal ≡ 0 = omega arith in
-    let e = sym o.0 ∙ t in
-    let w = o.1 t in
+    let e = sym o.refusal ∙ t in
+    let w = o.opened t in
     let f = c.first_store-store in
     stands_ready N b e w.survey_is w.plan_is (omega arith) f.result (f.ensures (named N) (sees N b e w.survey_is) w.plan_is) (omega arith)
