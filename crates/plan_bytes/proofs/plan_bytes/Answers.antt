@@ -30,4 +30,4 @@ returns c =
     let o = c.open_cluster-opening.ensures.opened (lent_zero _ _ _ _ c.lent_refusal-refusal.ensures c.if-refusal-ne0.false) in
     let a = c.args in
     let z = sym (refusal_is _ _ _ _ _ _ c.lent_refusal-refusal.ensures c.open_cluster-opening.ensures.refusal) ∙ c.if-refusal-ne0.false in
-    (planned_outcome _ _ o.survey_is z o.plan_is c.plan_answer-answer.ensures c.survey_rows-rows.ensures, bytes_filled a.shape a.leading a.present o.survey_is o.plan_is a.plan.now z c.copy_bytes.ensures)
+    (planned_outcome _ _ o.survey_is z o.plan_is c.plan_answer-answer.ensures (c.survey_rows-rows.ensures.sized, c.survey_rows-rows.ensures.rows), bytes_filled a.shape a.leading a.present o.survey_is o.plan_is a.plan.now z c.copy_bytes.ensures)
