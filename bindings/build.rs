@@ -1,4 +1,4 @@
-//! Links the proved functions: `libropelog.a`, which `rt staticlib ropelog` writes.
+//! Links the proved functions: `libropelog.a`, which `.ci/build` writes.
 
 use std::env;
 use std::path::{Path, PathBuf};
@@ -14,7 +14,7 @@ fn main() {
     println!("cargo:rerun-if-changed={}", archive.display());
     if !archive.is_file() {
         eprintln!(
-            "{} is missing: run `rt staticlib ropelog`, or set {VARIABLE} to the folder that holds it",
+            "{} is missing: run `.ci/build`, or set {VARIABLE} to the folder that holds it",
             archive.display()
         );
         process::exit(1);

@@ -1,4 +1,4 @@
-/* The rope log for C: every function of target/staticlib/libropelog.a, which `rt staticlib ropelog` writes.
+/* The rope log for C: every function of target/staticlib/libropelog.a, which `.ci/build` writes.
  *
  * Words. A replica is a cabinet with its memory card, or a witness, which is described below; a cluster is all n of them, n being 3 to 7.
  * Replicas are numbered 1 to n. An image is the content of one card: a header, then m records, then m entries, m being 1 to 64. Slot k of

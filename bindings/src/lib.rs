@@ -88,7 +88,7 @@
 //!
 //! # Linking
 //!
-//! The functions stand in `libropelog.a`, for x86-64 Linux, which `rt staticlib ropelog` writes to
+//! The functions stand in `libropelog.a`, for x86-64 Linux, which `.ci/build` writes to
 //! `target/staticlib` of the repository. If it lies elsewhere, the environment variable
 //! `ROPELOG_ARCHIVE_DIR` names its folder when this crate is built: an absolute path, or one that
 //! begins at the folder of this crate.

@@ -11,7 +11,7 @@ pub fn program() -> PathBuf {
     let program = Path::new(env!("CARGO_MANIFEST_DIR")).join("../target/bin/ropeplan");
     assert!(
         program.is_file(),
-        "{} is missing: run `rt check ropeplan` first",
+        "{} is missing: run `.ci/build` first",
         program.display()
     );
     program

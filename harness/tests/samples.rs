@@ -87,7 +87,7 @@ fn the_printing_program_prints_the_stored_plans() {
     let program = repository().join("target/bin/ropeplan");
     assert!(
         program.is_file(),
-        "{} is missing: run `rt check ropeplan` first",
+        "{} is missing: run `.ci/build` first",
         program.display()
     );
     for name in stored_names() {

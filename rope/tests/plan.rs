@@ -100,7 +100,7 @@ fn printed(cards: &Cards) -> String {
     let program = repository().join("target/bin/ropeplan");
     assert!(
         program.is_file(),
-        "{} is missing: run `rt check ropeplan` first",
+        "{} is missing: run `.ci/build` first",
         program.display()
     );
     let mut input = format!(
