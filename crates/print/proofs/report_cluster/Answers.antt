@@ -17,4 +17,4 @@ pub returns : goal.returns
 returns c =
     let e = c.open_cluster-opening.ensures in
     let z = c.if-refusal-ne0.false in
-    law.prints (law.planned_report _ _ _ _ (sym e.0 ∙ z)) (c.report_plan.ensures _ _ (e.1 z).survey_is (e.1 z).plan_is)
+    law.prints (law.planned_report _ _ _ _ (sym e.refusal ∙ z)) (c.report_plan.ensures _ _ (e.opened z).survey_is (e.opened z).plan_is)
