@@ -2,7 +2,7 @@
 // From standard input. That a read or a write failed is told on standard error, and the program ends as ever.
 #![tactic(auto)]
 
-ghost use Rattle.std.specs.Prelude.{◌≤◌, length};
+ghost use Rattle.std.specs.Prelude.{◌≤◌, ◌≡◌, length, take};
 
 use std::io::{self, Read, Write};
 
@@ -18,7 +18,7 @@ struct Arrived {
 
 // Reads until `input` is full, the input ends or a read fails.
 fn read_input<R: Read>(reader: &mut R, input: &mut [u8]) -> Arrived
-    ensures { result.size ≤ length input.new }
+    ensures { (result.size ≤ length input.new) × (result.size ≡ length (take result.size input.new)) }
 {
     let mut size = 0;
     while size < input.len() {
