@@ -1,6 +1,11 @@
 // The calls about one witness's image, for any lent bytes: 0, or document 01's refusal by number. A witness stores records only (document
 // 02, Seven). A fresh image is `rope_format`'s, for both. A refused call changes nothing that was lent.
-ghost use Rattle.call_witnesses.specs.Witnesses.{WitnessAppendCall, WitnessReadCall};
+ghost use Rattle.std.specs.Prelude.{suc, ◌≡◌, length};
+ghost use Rattle.image.specs.Image.{first_in, decode_image};
+ghost use Rattle.image.specs.View.{log_length};
+ghost use Rattle.image.specs.Read.{epochs_of};
+ghost use Rattle.image.specs.Witness.{epochs_refusal, record_refusal, record_appended};
+ghost use Rattle.image.specs.Refusal.{unless_refused};
 
 use record::Shape;
 
@@ -13,7 +18,9 @@ pub extern "C" fn rope_witness_append(
     epoch: u32,
     slot: &mut usize,
 ) -> u8
-    ensures { WitnessAppendCall image.old image.new shape replica epoch slot.old slot.new result }
+    ensures { (result ≡ record_refusal shape replica image.old epoch)
+        × (image.new ≡ record_appended shape replica image.old epoch)
+        × (slot.new ≡ unless_refused result (suc (log_length shape.m (decode_image shape replica image.old))) slot.old) }
 {
     call_witnesses::witness_append(image, shape, replica, epoch, slot)
 }
@@ -28,7 +35,10 @@ pub extern "C" fn rope_witness_read(
     used: &mut usize,
     first: &mut u32,
 ) -> u8
-    ensures { WitnessReadCall image.now shape replica epochs.old epochs.new used.old used.new first.old first.new result }
+    ensures { (result ≡ epochs_refusal shape replica image.now (length epochs.old))
+        × (epochs.new ≡ unless_refused result (epochs_of shape.m (decode_image shape replica image.now)) epochs.old)
+        × (used.new ≡ unless_refused result (log_length shape.m (decode_image shape replica image.now)) used.old)
+        × (first.new ≡ unless_refused result (first_in shape replica image.now) first.old) }
 {
     call_witnesses::witness_read(image, shape, replica, epochs, used, first)
 }
