@@ -2,10 +2,10 @@
 use mathlib.Core.Path.{refl}
 use Rattle.example.specs.Undamaged.{payload_a, payload_b, payload_c, noise}
 use Rattle.example.specs.Damaged.{five, scratch, first, second, third, fourth, fifth, damaged_cluster}
-use Rattle.example.specs.Computed.{Computed}
+use Rattle.example.specs.Computed.{DamagedComputed}
 use Rattle.protocol.proofs.Opened.{opened}
 
-pub computed : Computed
+pub computed : DamagedComputed
 unfolding opened five payload_a payload_b payload_c noise scratch first second third fourth fifth damaged_cluster
 computed = record {
   next_first = refl;

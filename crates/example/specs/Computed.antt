@@ -19,7 +19,7 @@ pub record Means (N : Numbers) (b : Bytes) (c k : ℕ) (r : Record) (x : Entry) 
   pub rec : (decode N.shape b c).records k ≡ r
   pub ent : (decode N.shape b c).entries k ≡ x
 
-pub record Computed : Type 0 where
+pub record DamagedComputed : Type 0 where
   pub next_first : next_in (named five) damaged_cluster ≡ some (store_blank 0 2)
   pub planned : refusal_of five (plan 3 5) damaged_cluster ≡ 0
   pub refused_1 : refusal_of (record { shape = record { n = 5; m = 0; edition = 1; witnesses = 0 }; leader = 1; present = 31 }) (run 9) damaged_cluster ≡ 1

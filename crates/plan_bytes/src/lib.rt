@@ -16,7 +16,7 @@ use record::Shape;
 use tabulate::{PlanOutcome, no_rows, survey_rows};
 
 // The answer of a plan: the number of the lowest waiting slot, or the final length.
-fn plan_answer(end: usize, waiting: usize) -> PlanAnswer
+pub fn plan_answer(end: usize, waiting: usize) -> PlanAnswer
     ensures { plan_numbers result ≡ answer_at end waiting }
 {
     if waiting < end {

@@ -1,0 +1,73 @@
+-- What is computed of the clusters: the stores that are due on the way, the refusals, and what the damaged slots mean.
+use Rattle.std.specs.Prelude.{◌≡◌, true, false}
+use Rattle.std.proofs.Math.Option.{some}
+use Rattle.record.specs.Layout.{fresh_entry}
+use Rattle.record.specs.Meaning.{proper, read_entry, good, blank, bad, intact, broken}
+use Rattle.image.specs.View.{read_refusal}
+use Rattle.image.specs.Cluster.{image_part, first_at, decode}
+use Rattle.planner.specs.Plan.{views_in, cluster_refusal}
+use Rattle.planner.specs.Rules.{is_faulty, have, rule, is_wait, end}
+use Rattle.protocol.specs.Store.{store_entry, store_record, store_blank}
+use Rattle.protocol.specs.StepBytes.{next_in, steps_bytes}
+use Rattle.protocol.specs.Call.{plan, step, run, named, refusal_of}
+use Rattle.protocol.specs.CallResult.{recovered, spent, call_result}
+use Rattle.example.specs.Undamaged.{payload_a, payload_b, payload_c, noise}
+use Rattle.example.specs.Damaged.{of_five, five, scratch, damaged_cluster}
+use Rattle.example_visited.specs.Visited.{blanked_one, torn_one, fetched_one, two_more, last_stored}
+use Rattle.example.specs.Computed.{Means}
+use Rattle.example_waiting.specs.WaitingComputed.{WaitingComputed}
+use Rattle.example_even.specs.EvenComputed.{EvenComputed}
+
+pub record Computed : Type 0 where
+  pub next_first : next_in (named five) damaged_cluster ≡ some (store_blank 0 2)
+  pub next_torn : next_in (named five) blanked_one ≡ some (store_entry 0 0 1)
+  pub next_record : next_in (named five) fetched_one ≡ some (store_record 0 1 2)
+  pub next_last : next_in (named five) (steps_bytes (named five) 3 two_more) ≡ some (store_entry 3 1 0)
+  pub planned : refusal_of five (plan 3 5) damaged_cluster ≡ 0
+  pub refused_1 : refusal_of (record { shape = record { n = 5; m = 0; edition = 1; witnesses = 0 }; leader = 1; present = 31 }) (run 9) damaged_cluster ≡ 1
+  pub refused_2 : refusal_of (record { shape = record { n = 8; m = 3; edition = 1; witnesses = 0 }; leader = 1; present = 31 }) step damaged_cluster ≡ 2
+  pub refused_3 : refusal_of (record { shape = record { n = 5; m = 2; edition = 1; witnesses = 0 }; leader = 1; present = 31 }) step damaged_cluster ≡ 3
+  pub refused_11 : refusal_of (record { shape = of_five; leader = 1; present = 63 }) step damaged_cluster ≡ 11
+  pub refused_12 : refusal_of (record { shape = of_five; leader = 5; present = 31 }) step damaged_cluster ≡ 12
+  pub refused_13 : refusal_of five (plan 2 5) damaged_cluster ≡ 13
+  pub go_first : cluster_refusal of_five 1 31 damaged_cluster ≡ 0
+  pub go_blanked : cluster_refusal of_five 1 31 blanked_one ≡ 0
+  pub go_torn : cluster_refusal of_five 1 31 torn_one ≡ 0
+  pub go_fetched : cluster_refusal of_five 1 31 fetched_one ≡ 0
+  pub go_two : cluster_refusal of_five 1 31 two_more ≡ 0
+  pub go_last : cluster_refusal of_five 1 31 last_stored ≡ 0
+  pub noise_broken : read_entry 1 noise ≡ broken noise
+  pub begins : first_at of_five blanked_one 0 ≡ 1
+  -- what the slots mean
+  pub slot_0_0 : Means five damaged_cluster 0 0 (good 2) (intact 1 payload_c)
+  pub slot_0_1 : Means five damaged_cluster 0 1 (bad scratch) (intact 2 payload_b)
+  pub slot_0_2 : Means five damaged_cluster 0 2 (good 2) (broken noise)
+  pub slot_1_0 : Means five damaged_cluster 1 0 (good 2) (intact 2 payload_a)
+  pub slot_1_1 : Means five damaged_cluster 1 1 (good 2) (intact 2 payload_b)
+  pub slot_1_2 : Means five damaged_cluster 1 2 blank (broken fresh_entry)
+  pub slot_2_0 : Means five damaged_cluster 2 0 blank (broken fresh_entry)
+  pub slot_2_1 : Means five damaged_cluster 2 1 blank (broken fresh_entry)
+  pub slot_2_2 : Means five damaged_cluster 2 2 blank (broken fresh_entry)
+  pub slot_3_0 : Means five damaged_cluster 3 0 (good 2) (intact 2 payload_a)
+  pub slot_3_1 : Means five damaged_cluster 3 1 (good 2) (broken noise)
+  pub slot_3_2 : Means five damaged_cluster 3 2 blank (broken fresh_entry)
+  pub slot_4_0 : Means five damaged_cluster 4 0 (good 2) (intact 2 payload_a)
+  pub slot_4_1 : Means five damaged_cluster 4 1 blank (broken fresh_entry)
+  pub slot_4_2 : Means five damaged_cluster 4 2 (good 2) (broken fresh_entry)
+  pub header_0 : (decode of_five damaged_cluster 0).header ≡ proper 1
+  pub header_1 : (decode of_five damaged_cluster 1).header ≡ proper 1
+  pub header_2 : (decode of_five damaged_cluster 2).header ≡ proper 1
+  pub header_3 : (decode of_five damaged_cluster 3).header ≡ proper 1
+  pub header_4 : (decode of_five damaged_cluster 4).header ≡ proper 1
+  pub gap : read_refusal of_five 5 (image_part of_five damaged_cluster 4) ≡ 5
+  pub spent_run : call_result five (run 2) fetched_one ≡ spent 2
+  pub last_run : call_result five (run 45) last_stored ≡ recovered 0
+  pub whole_run : call_result five (run 45) damaged_cluster ≡ recovered 8
+  -- the leader's first entry is faulty, replica 2 has it, and the other slot that stays does not wait
+  pub first_faulty : is_faulty ((views_in (named five) damaged_cluster 0).condition 0) ≡ true
+  pub copy : have (named five) (views_in (named five) damaged_cluster) 0 1 ≡ true
+  pub ends : end (named five) (views_in (named five) damaged_cluster) ≡ 2
+  pub other_slot : is_wait (rule (named five) (views_in (named five) damaged_cluster) 1) ≡ false
+  -- and of those
+  pub waiting : WaitingComputed
+  pub even : EvenComputed

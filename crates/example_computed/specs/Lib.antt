@@ -1,0 +1,2 @@
+-- What is computed of all of them.
+pub mod Computed
