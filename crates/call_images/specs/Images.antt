@@ -1,4 +1,4 @@
--- The calls about one image: each as one contract, which the call and its export cite. A contract takes what the call takes, in its order,
+-- The calls about one image: each as one contract, which the call cites and its export says in full. A contract takes what the call takes, in its order,
 -- of all that is lent to be written the old and the new content, and then the answer.
 use Rattle.std.specs.Prelude.{ℕ, suc, ◌≡◌, List, length}
 use Rattle.slices.specs.Parts.{Bytes}

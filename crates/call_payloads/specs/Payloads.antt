@@ -1,4 +1,4 @@
--- The calls about the payload of a slot: each as one contract, which the call and its export cite, as in `call_images`.
+-- The calls about the payload of a slot: each as one contract, which the call cites and its export says in full, as in `call_images`.
 use Rattle.std.specs.Prelude.{ℕ, ◌≡◌, Bool, cond, length}
 use Rattle.slices.specs.Parts.{Bytes, part}
 use Rattle.record.specs.declared.Shape.{Shape}

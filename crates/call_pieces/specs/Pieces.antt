@@ -1,5 +1,5 @@
 -- The calls about columns and headers: what they answer and leave in what they were lent, for any bytes, and each as one contract, which the
--- call and its export cite. An answer is a code; a number that is handed out with it keeps its old value where there is nothing to hand out.
+-- call cites and its export says in full. An answer is a code; a number that is handed out with it keeps its old value where there is nothing to hand out.
 use Rattle.std.specs.Prelude.{ℕ, ◌≡◌, cond, eqb, leb, length}
 use Rattle.slices.specs.Parts.{Bytes}
 use Rattle.checksum.specs.Checksum.{checksum_of}

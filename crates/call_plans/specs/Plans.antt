@@ -1,4 +1,4 @@
--- The call that plans a cluster as one contract, which the call and its export cite. It takes what the call takes, in its order, of all that is
+-- The call that plans a cluster as one contract, which the call cites and its export says in full. It takes what the call takes, in its order, of all that is
 -- lent to be written the old and the new content, and then the answer.
 use Rattle.std.specs.Prelude.{ℕ, ◌≡◌, List, length}
 use Rattle.slices.specs.Parts.{Bytes}

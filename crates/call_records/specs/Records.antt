@@ -1,5 +1,5 @@
 -- The calls about records and entries: what they answer and leave in what they were lent, for any bytes, and each as one contract, which the
--- call and its export cite, as in `call_pieces`.
+-- call cites and its export says in full, as in `call_pieces`.
 use Rattle.std.specs.Prelude.{ℕ, ◌≡◌, cond, eqb, leb, length}
 use Rattle.slices.specs.Parts.{Bytes}
 use Rattle.record.specs.Layout.{record_size, entry_size, max_payload, record_bytes, blank_record, entry_bytes, fresh_entry}

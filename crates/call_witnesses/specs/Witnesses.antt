@@ -1,4 +1,4 @@
--- The calls about one witness's image: each as one contract, which the call and its export cite, as in `call_images`.
+-- The calls about one witness's image: each as one contract, which the call cites and its export says in full, as in `call_images`.
 use Rattle.std.specs.Prelude.{ℕ, suc, ◌≡◌, List, length}
 use Rattle.slices.specs.Parts.{Bytes}
 use Rattle.record.specs.declared.Shape.{Shape}
