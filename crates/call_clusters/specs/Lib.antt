@@ -1,2 +1,2 @@
--- What the contracts of `clusters` cite.
+-- The definitions that the contracts cite.
 pub mod Clusters

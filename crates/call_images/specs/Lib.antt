@@ -1,2 +1,2 @@
--- What the contracts of `images` cite.
+-- The definitions that the contracts cite.
 pub mod Images

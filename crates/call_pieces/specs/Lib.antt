@@ -1,2 +1,2 @@
--- What the contracts of `pieces` cite.
+-- The definitions that the contracts cite.
 pub mod Pieces

@@ -1,4 +1,4 @@
-// The four clusters of the examples together: what is computed of them and on the way to a recovery, in one theorem.
+// Three clusters of the examples together: what is computed of them and on the way to a recovery, in one theorem.
 #![tactic(auto)]
 
 ghost use Rattle.example_computed.specs.Computed.{Computed};

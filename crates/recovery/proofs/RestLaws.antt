@@ -1,4 +1,4 @@
--- After a follower's store neither the leader nor a follower before it has one outstanding: `rests-after`.
+-- After a follower's store neither the leader nor a follower before it has one outstanding: `rests_after`.
 use Prim.Native.Nat.{ℕ, ◌<◌, pred}
 use mathlib.Core.Path.{◌≡◌, refl, sym, ap, ◌∙◌, fun_ext}
 use mathlib.Core.Bool.{Bool, true, false, cond}

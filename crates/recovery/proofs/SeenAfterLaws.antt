@@ -1,4 +1,4 @@
--- What is seen after the first outstanding store is what was seen before with one slot changed: `next-seen`.
+-- What is seen after the first outstanding store is what was seen before with one slot changed: `next_seen`.
 use Prim.Native.Nat.{ℕ, suc, ◌≤◌, ◌<◌}
 use mathlib.Core.Path.{◌≡◌, refl, sym, ap, ◌∙◌, fun_ext}
 use mathlib.Core.Bool.{Bool, true, false, cond, true≢false}

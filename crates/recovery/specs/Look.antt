@@ -47,7 +47,7 @@ pub record Sees (S : Setting) (b : Bytes) (Z : Shape) (leader : ℕ) (s : Survey
 abbrev pub cluster_in : Setting → Bytes → Cluster
 cluster_in S b = decode S.shape b
 
--- the last part of `followerStore`: the first missing slot of c, entry before record
+-- the last part of `follower_store`: the first missing slot of c, entry before record
 abbrev pub missing_store : Setting → (ℕ → View) → Bool → ℕ → Option Store
 missing_store S W other c =
     if_below (W c).length (W S.leader).length

@@ -3,6 +3,7 @@
 #![tactic(auto)]
 
 ghost use Rattle.recovery.specs.PlanCall.{PlanCall};
+ghost use Rattle.recovery.specs.Statuses.{Statuses};
 
 pub mod kind; // kind.rt: the kinds of a store by number
 
@@ -52,4 +53,9 @@ pub enum RunAnswer {
 // The planner's answer is that of a plan call of demand 3. The function does nothing; its contract is the theorem.
 pub fn plan_call_claim()
     ensures { PlanCall }
+{}
+
+// The status that a call hands out says what its answer is, as a theorem.
+pub fn status_claim()
+    ensures { Statuses }
 {}

@@ -1,5 +1,5 @@
 // The printing program: reads a command line and a cluster, and prints the plan or the refusal.
-// From standard input. That a read or a write failed is told on standard error, and ends the program with status 1.
+// It reads standard input. That a read or a write failed is told on standard error, and ends the program with status 1.
 #![tactic(auto)]
 
 ghost use Rattle.std.specs.Prelude.{◌≤◌, ◌≡◌, length, take};
