@@ -8,7 +8,7 @@ use native.Mathlib.Nat.{mul-le-mul_left}
 use native.Mathlib.Numerals.{add-one}
 use native.Mathlib.Decide.{ℕ_discrete}
 use lib.Dec.{eqb, leb, ltb}
-use lib.ListN.{length, get_or, length-append, take-append-drop}
+use lib.ListN.{length, length-append, take-append-drop}
 use borrow.Author.Tests.{eq-eqb, ne_eqb, lt-ltb, le-ltb, le-leb, lt-leb}
 use Rattle.search.specs.Search.{joined}
 use Rattle.slices.specs.Parts.{Bytes, spliced}
@@ -21,7 +21,9 @@ use Rattle.record.proofs.WriteLaws.{start, then, whole}
 use Rattle.image.specs.Refusal.{refuse, ◌else◌}
 use Rattle.image.specs.Image.{Image, index, image_size, record_at, entry_at, decode_image, fresh_image}
 use Rattle.image.specs.View.{epoch_at, log_length, card_refusal, witness_refusal}
-use Rattle.image.specs.Seen.{Seen}
+use Rattle.image.specs.declared.condition.Condition.TheVariants.{Unused}
+use Rattle.image.specs.declared.condition.Slot.{Slot}
+use Rattle.image.specs.Seen.{slot_of, slot_in, Seen}
 use Rattle.image.specs.Append.{last_epoch, format_refusal, append_refusal, stored, appended, formatted}
 use Rattle.image.specs.Witness.{record_refusal, recorded, record_appended}
 use Rattle.image.specs.Answers.{refused, value, numbered, format_call_numbers}
@@ -113,17 +115,16 @@ module _ (last len m e size : ℕ) where
         deny_none h = sym (rw (ne_eqb e 0 p, le-ltb e last q, le-ltb 200 size s, lt-leb m len h))
 
 -- the last epoch as the scan has it
-pub last_seen : (m : ℕ) (i : Image) {first len : ℕ} {cs es : List ℕ} → Seen m i first len cs es → cond (eqb len 0) 0 (get_or es (0 + len - 1) 0) ≡ last_epoch m i
+pub last_seen : (m : ℕ) (i : Image) {first len : ℕ} {slots : List Slot} → Seen m i first len slots
+    → cond (eqb len 0) 0 (slot_in slots (len - 1)).epoch ≡ last_epoch m i
 unfolding last_epoch
-last_seen m i {len = len} {es = es} s =
-    let z : 0 + len ≡ len = omega arith in
-    rw (z, ← s.length_is) (go (ℕ_discrete len 0))
+last_seen m i {len = len} {slots = slots} s = rw (← s.length_is) (go (ℕ_discrete len 0))
   where
-    go : Dec (len ≡ 0) → cond (eqb len 0) 0 (get_or es (len - 1) 0) ≡ cond (eqb len 0) 0 (epoch_at i (len - 1))
+    go : Dec (len ≡ 0) → cond (eqb len 0) 0 (slot_in slots (len - 1)).epoch ≡ cond (eqb len 0) 0 (epoch_at i (len - 1))
     go (yes q) = rw (eq-eqb len 0 q)
     go (no q) =
         let h : len - 1 < m = omega (arith, s.length_is, length_le m i) in
-        rw (ne_eqb len 0 q) (taken_at m (epoch_at i) es s.epochs_are (len - 1) h)
+        rw (ne_eqb len 0 q) (ap (λ (v : Slot). v.epoch) (taken_at m (slot_of i) slots (record { condition = Unused; epoch = 0 }) s.slots_are (len - 1) h))
 
 -- ---- appending: which refusal it is
 
@@ -133,11 +134,11 @@ module _ (Z : Shape) (c : ℕ) (b : Bytes) (e size : ℕ) {r : ℕ} (call : r �
   unfolding append_refusal
   refused_call h = else_first _ _ (λ q. h (call ∙ q)) ∙ sym call
 
-  module _ (free : r ≡ 0) {first len : ℕ} {cs es : List ℕ} (s : Seen Z.m (decode_image Z c b) first len cs es) where
+  module _ (free : r ≡ 0) {first len : ℕ} {slots : List Slot} (s : Seen Z.m (decode_image Z c b) first len slots) where
     pub used_few : len ≤ 64
     used_few = omega (arith, s.length_is, length_le Z.m (decode_image Z c b), slots_high Z.m (opened_slots Z c b r call free))
 
-    module _ {last d : ℕ} (l : last ≡ cond (eqb len 0) 0 (get_or es (0 + len - 1) 0))
+    module _ {last d : ℕ} (l : last ≡ cond (eqb len 0) 0 (slot_in slots (len - 1)).epoch)
         (k : d ≡ (refuse 8 (eqb e 0 || ltb e last) else refuse 9 (ltb 200 size) else refuse 10 (leb Z.m len))) where
       pub refused_append : append_refusal Z c b e size ≡ d
       unfolding append_refusal
@@ -158,11 +159,11 @@ module _ (Z : Shape) (c : ℕ) (b : Bytes) (e : ℕ) {r : ℕ} (call : r ≡ wit
   unfolding record_refusal
   record_call h = else_first _ _ (λ q. h (call ∙ q)) ∙ sym call
 
-  module _ (free : r ≡ 0) {first len : ℕ} {cs es : List ℕ} (s : Seen Z.m (decode_image Z c b) first len cs es) where
+  module _ (free : r ≡ 0) {first len : ℕ} {slots : List Slot} (s : Seen Z.m (decode_image Z c b) first len slots) where
     pub used_short : len ≤ 64
     used_short = omega (arith, s.length_is, length_le Z.m (decode_image Z c b), slots_high Z.m (witnessed_slots Z c b r call free))
 
-    module _ {last d : ℕ} (l : last ≡ cond (eqb len 0) 0 (get_or es (0 + len - 1) 0))
+    module _ {last d : ℕ} (l : last ≡ cond (eqb len 0) 0 (slot_in slots (len - 1)).epoch)
         (k : d ≡ (refuse 8 (eqb e 0 || ltb e last) else refuse 9 (ltb 200 0) else refuse 10 (leb Z.m len))) where
       pub refused_record : record_refusal Z c b e ≡ d
       unfolding record_refusal

@@ -12,7 +12,7 @@ ghost use Rattle.record.specs.Seal.{seal_of, is_front};
 use locate::{
     BLANK_SIZE, ENTRY_SIZE, FRONT_SIZE, INDEX_AT, MAX_PAYLOAD, NUMBER_WIDTH, PAYLOAD_AT, SEAL_SIZE,
 };
-use record::{EntryState, RecordState};
+use record::{Intact, RecordState};
 
 // Epochs are 1 to this.
 const LAST_EPOCH: u64 = 4294967295;
@@ -113,18 +113,18 @@ fn is_closed(s: &[u8], at: usize) -> bool
     copy::all_bytes(&s[e..ENTRY_SIZE], b' ')
 }
 
-// Judges the entry of an index, given the part of the image that begins at its own start.
-pub fn judge_entry(s: &[u8], index: u64) -> EntryState
+// Judges the entry of an index, given the part of the image that begins at its own start: what it is if it is intact.
+pub fn judge_entry(s: &[u8], index: u64) -> Option<Intact>
     requires { length s.now ≡ entry_size }
     ensures { result ≡ entry_answer (read_entry index s.now) }
 {
     let epoch = spell::number_in(&s[0..INDEX_AT]);
     let size = spell::number_in(&s[FRONT_SIZE..PAYLOAD_AT]) as usize;
     if is_intact(s, index, epoch, size) {
-        return EntryState::Intact {
+        return Some(Intact {
             epoch: epoch as u32,
             size,
-        };
+        });
     }
-    EntryState::Broken
+    None
 }

@@ -17,7 +17,9 @@ use Rattle.slices.proofs.SameLaws.{and_off, clash}
 use Rattle.record.specs.declared.Shape.{Shape}
 use Rattle.record.specs.Layout.{is_witness}
 use Rattle.image.specs.Image.{Image, image_size, decode_image}
-use Rattle.image.specs.View.{View, view_of, condition_as, seen_as, image_refusal, Condition, Unused, Whole, RecordLost, Faulty, Lost, RecordOnly, condition_at, epoch_at}
+use Rattle.image.specs.View.{View, view_of, condition_as, seen_as, image_refusal, condition_at, epoch_at}
+use Rattle.image.specs.declared.condition.Condition.{Condition}
+use Rattle.image.specs.declared.condition.Condition.TheVariants.{Unused, Whole, RecordLost, Faulty, Lost, RecordOnly}
 use Rattle.image.specs.View.{condition_number}
 use Rattle.image.specs.Seen.{Seen, conditions_of}
 use Rattle.image.specs.Cluster.{image_at, image_part, decode}

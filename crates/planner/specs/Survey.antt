@@ -2,7 +2,9 @@
 use Rattle.std.specs.Prelude.{ℕ, zero, suc, pred, ◌+◌, ◌*◌, ◌<◌, ◌≤◌, ◌≡◌, Bool, true, false, cond, not, ◌&&◌, ◌||◌, List, eqb, ltb, length, get_or, take}
 use Rattle.search.specs.Search.{all}
 use Rattle.record.specs.declared.Shape.{Shape}
-use Rattle.image.specs.View.{Condition, Unused, Whole, RecordLost, Faulty, Lost, RecordOnly, View}
+use Rattle.image.specs.View.{View}
+use Rattle.image.specs.declared.condition.Condition.{Condition}
+use Rattle.image.specs.declared.condition.Condition.TheVariants.{Unused, Whole, RecordLost, Faulty, Lost, RecordOnly}
 use Rattle.image.specs.Refusal.{refuse}
 use Rattle.image.specs.View.{condition_number, is_replica}
 use Rattle.slices.specs.Parts.{Bytes}

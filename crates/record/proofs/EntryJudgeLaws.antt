@@ -7,6 +7,7 @@ use native.Mathlib.Omega.{arith}
 use lib.Dec.{leb}
 use lib.ListN.{length, take, drop, length-append, length-take, length-drop}
 use borrow.Author.Tests.{leb-true, le-leb, lt-leb, not-true, not-false}
+use Rattle.std.specs.Prelude.{Some, None}
 use Rattle.slices.specs.Parts.{Bytes, part}
 use Rattle.slices.specs.Same.{same}
 use Rattle.slices.proofs.SameLaws.{and_left, and_right, and_off, and_assoc, same_refl, and_on}
@@ -17,10 +18,13 @@ use Rattle.record.specs.Layout.{padded, entry_bytes}
 use Rattle.record.specs.Meaning.{is_epoch, is_intact, entry_epoch, entry_payload, read_entry}
 use Rattle.record.specs.Judged.{entry_answer}
 use Rattle.record.specs.Seal.{is_front}
-use Rattle.record.specs.declared.EntryState.TheVariants.{Intact, Broken}
+use Rattle.record.specs.declared.Intact.{Intact}
 use Rattle.record.proofs.LayoutLaws.{length_sealed}
 use Rattle.record.proofs.RecordLaws.{epoch_high}
 use Rattle.record.proofs.JudgeLaws.{same_front, same_column, sealed_is, close}
+
+abbrev pub intact_of : ℕ → ℕ → Intact
+intact_of e size = record { epoch = e; size = size }
 
 -- what the seal of an entry covers, its payload's length being n
 abbrev covered : ℕ → ℕ → ℕ → Bytes → Bytes
@@ -100,11 +104,11 @@ module _ (k e n : ℕ) (s : Bytes) (h : length s ≡ 240) where
     unfolding entry_payload part
     entry_payload_is = ap (part s 26) (sym hn)
 
-    pub answer_intact : is_intact k e (part s 26 n) s ≡ true → Intact e n ≡ entry_answer (read_entry k s)
+    pub answer_intact : is_intact k e (part s 26 n) s ≡ true → Some (intact_of e n) ≡ entry_answer (read_entry k s)
     unfolding read_entry entry_answer
-    answer_intact t = sym (rw (entry_epoch_is, entry_payload_is, t) (ap (Intact e) (intact_size t)))
+    answer_intact t = sym (rw (entry_epoch_is, entry_payload_is, t) (ap (λ (z : ℕ). Some (intact_of e z)) (intact_size t)))
 
-    pub answer_broken : is_intact k e (part s 26 n) s ≡ false → Broken ≡ entry_answer (read_entry k s)
+    pub answer_broken : is_intact k e (part s 26 n) s ≡ false → None ≡ entry_answer (read_entry k s)
     unfolding read_entry entry_answer
     answer_broken t = sym (rw (entry_epoch_is, entry_payload_is, t))
 

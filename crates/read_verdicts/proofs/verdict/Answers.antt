@@ -1,5 +1,5 @@
 -- `verdict` goes by the number of the condition; what is faulty or unused, by the entry too.
-use Rattle.image.specs.View.{Unused, Faulty}
+use Rattle.image.specs.declared.condition.Condition.TheVariants.{Unused, Faulty}
 use Rattle.image.proofs.VerdictSteps.{verdict_none, verdict_by, verdict_same}
 use native.Mathlib.Omega.{arith}
 use Rattle.read_verdicts.proofs.verdict.Goals as goal
