@@ -13,7 +13,7 @@ use Rattle.std.specs.List.{list_any}
 use Rattle.search.specs.Search.{all, listed}
 use Rattle.search.proofs.SearchLaws.{lowest_cong, all_cong, all_elim, all_intro}
 use Rattle.search.proofs.ListedLaws.{length_listed, get_d_listed}
-use Rattle.search.proofs.ChainLaws.{any_off, any_none_at, any_all, position_lowest, all_beyond}
+use Rattle.search.proofs.ChainLaws.{any_off, any_none_at, any_all, all_beyond}
 use Rattle.record.specs.Meaning.{Record, good, blank, bad, Entry, intact, broken}
 use Rattle.image.specs.Refusal.{refuse, ◌else◌}
 use Rattle.image.specs.Image.{Image}
@@ -21,7 +21,7 @@ use Rattle.image.specs.View.{condition, condition_at, epoch_at, is_blank, is_unu
 use Rattle.image.specs.declared.condition.Condition.TheVariants.{Unused, Whole, Faulty}
 use Rattle.image.specs.declared.condition.Slot.{Slot}
 use Rattle.image.specs.Seen.{slot_of, slot_in}
-use Rattle.image.specs.Scan.{length_in, no_gap_in, none_lost_in, rising_in, scan_refusal}
+use Rattle.image.specs.Scan.{length_in, gap_in, lost_in, falls_in, scan_refusal}
 use Rattle.image.proofs.ViewLaws.{length_le}
 
 -- ---- an unused slot
@@ -64,19 +64,13 @@ module _ (m : ℕ) (i : Image) where
 
   pub length_scanned : length_in scanned ≡ log_length m i
   unfolding length_in log_length
-  length_scanned =
-      position_lowest (λ (s : Slot). is_unused s.condition) scanned unused_slot
-      ∙ rw (length_listed m (slot_of i)) (lowest_cong _ _ m unused_here)
+  length_scanned = rw (length_listed m (slot_of i)) (lowest_cong _ _ m unused_here)
 
-  pub lost_scanned : none_lost_in scanned ≡ none_lost m i
-  unfolding none_lost_in none_lost
+  pub lost_scanned : lost_in scanned ≡ not (none_lost m i)
+  unfolding lost_in none_lost
   lost_scanned =
       rw (any_all (λ (s : Slot). is_lost s.condition) scanned unused_slot, length_listed m (slot_of i))
-      (twice (all (λ k. not (is_lost (slot_in scanned k).condition)) m) ∙ all_cong _ _ m (λ k h. rw (here k h)))
-    where
-      twice : (b : Bool) → not (not b) ≡ b
-      twice true = refl
-      twice false = refl
+      (ap not (all_cong _ _ m (λ k h. rw (here k h))))
 
   module _ (len : ℕ) where
     abbrev gap : Slot → Bool
@@ -90,11 +84,11 @@ module _ (m : ℕ) (i : Image) where
         let w : len + k < m = omega (arith, length-drop len scanned, length_listed m (slot_of i)) in
         (w, get_or-drop len scanned k unused_slot ∙ here (len + k) w)
 
-    pub gap_scanned : no_gap_in len scanned ≡ all free m
-    unfolding no_gap_in condition_at
+    pub gap_scanned : gap_in len scanned ≡ not (all free m)
+    unfolding gap_in condition_at
     gap_scanned = go (list_any gap (drop len scanned)) refl (all free m) refl
       where
-        go : (a : Bool) → list_any gap (drop len scanned) ≡ a → (t : Bool) → all free m ≡ t → not a ≡ t
+        go : (a : Bool) → list_any gap (drop len scanned) ≡ a → (t : Bool) → all free m ≡ t → a ≡ not t
         go true e false f = refl
         go false e true f = refl
         go true e true f =
@@ -114,14 +108,14 @@ module _ (m : ℕ) (i : Image) where
                 let u : not (is_unused (slot_of i k).condition) ≡ false = rw ((behind (k - len) (omega (arith, length-drop len scanned, length_listed m (slot_of i)))).1, j) at w in
                 rw (blank_unused (i.records k) (i.entries k), not-false _ u) (or_on (ltb k len))
 
-  pub rising_scanned : rising_in (take (log_length m i) scanned) ≡ rising m i
-  unfolding rising_in rising
+  pub rising_scanned : falls_in (take (log_length m i) scanned) ≡ not (rising m i)
+  unfolding falls_in rising
   rising_scanned =
       let few = length_le m i in
       let size : length (take (log_length m i) scanned) ≡ log_length m i = length-take (log_length m i) scanned ∙ omega (arith, length_listed m (slot_of i)) in
       rw size
-      (all_cong _ rises (log_length m i) (λ k h. one k h (dec_lt (suc k) (log_length m i)))
-      ∙ all_beyond rises (log_length m i) m few (λ k h. rw (le-ltb (suc k) (log_length m i) (omega arith))))
+      (ap not (all_cong _ rises (log_length m i) (λ k h. one k h (dec_lt (suc k) (log_length m i)))
+      ∙ all_beyond rises (log_length m i) m few (λ k h. rw (le-ltb (suc k) (log_length m i) (omega arith)))))
     where
       rises : ℕ → Bool
       rises k = not (ltb (suc k) (log_length m i)) || leb (epoch_at i k) (epoch_at i (suc k))

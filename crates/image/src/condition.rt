@@ -49,6 +49,13 @@ pub struct Slot {
     pub epoch: u32,
 }
 
+impl Slot {
+    pub const UNUSED: Slot = Slot {
+        condition: Condition::Unused,
+        epoch: 0,
+    };
+}
+
 // The conditions by number, as the planner's tables have them.
 pub const UNUSED: u8 = 0;
 

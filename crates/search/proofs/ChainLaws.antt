@@ -1,4 +1,4 @@
--- What iterator chains compute of a list, by place: the first element that passes, and whether any does.
+-- What iterator chains compute of a list, by place: whether any element passes.
 use Prim.Native.Nat.{ℕ, zero, suc, ◌<◌, ◌≤◌}
 use mathlib.Core.Path.{◌≡◌, refl, sym, ◌∙◌}
 use mathlib.Core.Bool.{Bool, true, false, not, ◌||◌, true≢false}
@@ -6,10 +6,9 @@ use mathlib.Core.List.{List, [], ◌∷◌}
 use native.Mathlib.Omega.{arith}
 use native.Mathlib.Decide.{dec_lt}
 use lib.ListN.{length, get_or}
-use Rattle.std.specs.List.{list_any, position_or_len}
-use Rattle.std.proofs.lemmas.List.Sums.{position_or_len_is}
-use Rattle.search.specs.Search.{lowest, all}
-use Rattle.search.proofs.SearchLaws.{lowest_le, below_lowest, lowest_passes, all_elim, all_intro}
+use Rattle.std.specs.List.{list_any}
+use Rattle.search.specs.Search.{all}
+use Rattle.search.proofs.SearchLaws.{all_elim, all_intro}
 
 module _ {A : Type 0} (p : A → Bool) where
   -- no element passes
@@ -43,11 +42,6 @@ module _ {A : Type 0} (p : A → Bool) where
           off : (b : Bool) → not b ≡ true → b ≡ false
           off true h = absurd (true≢false (sym h))
           off false h = refl
-
-  pub position_lowest : (xs : List A) (d : A) → position_or_len p xs ≡ lowest (λ k. p (get_or xs k d)) (length xs)
-  position_lowest xs d =
-      let q : ℕ → Bool = λ k. p (get_or xs k d) in
-      position_or_len_is p xs (lowest q (length xs)) d (lowest_le q (length xs)) (λ k l. below_lowest q (length xs) k l) (λ l. lowest_passes q (length xs) l)
 
 -- numbers that pass anyway need not be tested
 pub all_beyond : (q : ℕ → Bool) (b c : ℕ) → b ≤ c → ((k : ℕ) → b ≤ k → q k ≡ true) → all q b ≡ all q c
