@@ -6,12 +6,11 @@ ghost use Rattle.std.specs.Prelude.{ℕ, ◌<◌, ◌≤◌, ◌≡◌, not, ◌
 ghost use Rattle.search.specs.Search.{count};
 ghost use Rattle.search.specs.Sets.{has};
 ghost use Rattle.planner.specs.Rules.{have, dont_have, may_truncate};
-ghost use Rattle.planner.specs.Sets.{set_of};
 ghost use Rattle.planner.specs.Survey.{agrees_at, survey_setting, survey_views};
 
 use image::{MAX_SLOTS, condition};
 use planner::SURVEY_SLOTS;
-use survey_sets::{contains, insert};
+use survey_sets::contains;
 use view_slot::is_whole;
 
 // Whether replica c answers: it is readable and not the leader.
@@ -19,13 +18,11 @@ fn can_answer(readable: u32, leader: usize, c: usize) -> bool
     requires { c < 7 }
     ensures { result ≡ not (eqb c leader) && has readable c }
 {
-    if c == leader {
-        return false;
-    }
-    contains(readable, c)
+    c != leader && contains(readable, c)
 }
 
 // Whether slot k of replica c is used under the leader's epoch there.
+#[tactic(auto, unfolding(planner::specs::Survey::agrees_at))]
 fn agrees_at(
     conditions: &[u8; SURVEY_SLOTS],
     epochs: &[u32; SURVEY_SLOTS],
@@ -36,13 +33,12 @@ fn agrees_at(
     requires { (leader < 7) × (c < 7) × (k < 64) }
     ensures { result ≡ agrees_at conditions.now epochs.now leader c k }
 {
-    if conditions[c * MAX_SLOTS + k] == condition::UNUSED {
-        return false;
-    }
-    epochs[c * MAX_SLOTS + k] == epochs[leader * MAX_SLOTS + k]
+    conditions[c * MAX_SLOTS + k] != condition::UNUSED
+        && epochs[c * MAX_SLOTS + k] == epochs[leader * MAX_SLOTS + k]
 }
 
 // Whether replica c answers have.
+#[tactic(auto, using(crate::proofs::AnswerLaws::have_is))]
 pub fn has_slot(
     readable: u32,
     conditions: &[u8; SURVEY_SLOTS],
@@ -55,16 +51,13 @@ pub fn has_slot(
     ensures { (n l : ℕ)
         → result ≡ have (survey_setting n leader) (survey_views l readable conditions.now epochs.now) k c }
 {
-    if !can_answer(readable, leader, c) {
-        return false;
-    }
-    if !is_whole(conditions[c * MAX_SLOTS + k]) {
-        return false;
-    }
-    agrees_at(conditions, epochs, leader, c, k)
+    can_answer(readable, leader, c)
+        && is_whole(conditions[c * MAX_SLOTS + k])
+        && agrees_at(conditions, epochs, leader, c, k)
 }
 
 // Whether replica c answers don't-have.
+#[tactic(auto, using(crate::proofs::AnswerLaws::lacks_is))]
 fn lacks_slot(
     readable: u32,
     conditions: &[u8; SURVEY_SLOTS],
@@ -77,36 +70,7 @@ fn lacks_slot(
     ensures { (n l : ℕ)
         → result ≡ dont_have (survey_setting n leader) (survey_views l readable conditions.now epochs.now) k c }
 {
-    if !can_answer(readable, leader, c) {
-        return false;
-    }
-    !agrees_at(conditions, epochs, leader, c, k)
-}
-
-// The set of the replicas that answer don't-have.
-fn lacking(
-    readable: u32,
-    conditions: &[u8; SURVEY_SLOTS],
-    epochs: &[u32; SURVEY_SLOTS],
-    n: usize,
-    leader: usize,
-    k: usize,
-) -> u32
-    requires { (n ≤ 7) × (leader < 7) × (k < 64) }
-    ensures { (l : ℕ)
-        → result ≡ set_of (dont_have (survey_setting n leader) (survey_views l readable conditions.now epochs.now) k) n }
-{
-    let mut set: u32 = 0;
-    let mut c: usize = 0;
-    'replicas: while c < n {
-        if !lacks_slot(readable, conditions, epochs, leader, k, c) {
-            c += 1;
-            continue 'replicas;
-        }
-        set = insert(set, c);
-        c += 1;
-    }
-    set
+    can_answer(readable, leader, c) && !agrees_at(conditions, epochs, leader, c, k)
 }
 
 // Whether the possible holders, all that did not answer don't-have, the leader and those away included, are fewer than a majority of n.
@@ -122,7 +86,9 @@ pub fn may_truncate(
     ensures { (l : ℕ) → result ≡ may_truncate n
         (count (dont_have (survey_setting n leader) (survey_views l readable conditions.now epochs.now) k) n) }
 {
-    let set = lacking(readable, conditions, epochs, n, leader, k);
-    let holders = n - u32::count_ones(set) as usize;
+    let lacking = (0..n)
+        .filter(|&c| lacks_slot(readable, conditions, epochs, leader, k, c))
+        .count();
+    let holders = n - lacking;
     holders < n / 2 + 1
 }
