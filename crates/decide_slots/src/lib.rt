@@ -2,36 +2,74 @@
 // A survey's numbers are lent: slot k of replica c stands at c * MAX_SLOTS + k. Replicas and slots count from 0 here.
 #![tactic(auto)]
 
-ghost use Rattle.std.specs.Prelude.{◌+◌, ◌<◌, ◌≤◌, ◌≡◌, cond, eqb, ltb, get_or};
+ghost use Rattle.std.specs.Prelude.{◌+◌, ◌<◌, ◌≤◌, ◌≡◌, ℕ, IfSome, MatchOption, true, false, cond, eqb, get_or};
 ghost use Rattle.search.specs.Search.{listed, lowest};
-ghost use Rattle.planner.specs.Rules.{end};
+ghost use Rattle.planner.specs.Rules.{end, have, is_truncate, rule};
 ghost use Rattle.planner.specs.Plan.{kept_byte};
-ghost use Rattle.planner.specs.Survey.{condition_from, survey_setting, survey_views, Walked, marked_byte};
+ghost use Rattle.planner.specs.Survey.{condition_from, survey_setting, survey_views, Walked, marked_byte, slot_byte};
 
 use decide_answers::{has_slot, may_truncate};
 use image::{MAX_SLOTS, condition};
 use planner::{SURVEY_SLOTS, action};
 
 // The plan byte of a slot that is not faulty.
+#[tactic(auto, using(planner::proofs::RuleLaws::kept_low, planner::proofs::RuleLaws::kept_high))]
 fn kept_byte(condition: u8) -> u8
     ensures { result ≡ kept_byte (condition_from condition) }
 {
     if condition < condition::FAULTY {
-        return condition;
+        condition
+    } else {
+        condition::UNUSED
     }
-    condition::UNUSED
 }
 
-// The plan byte of a faulty slot that is not truncated: fetch from the donor, or wait where there is none.
-fn faulty_byte(donor: usize, n: usize) -> u8
-    requires { n ≤ 7 }
-    ensures { result ≡ cond (ltb donor n) (11 + donor) 3 }
+// The lowest-numbered replica that has the slot intact.
+fn donor(
+    readable: u32,
+    conditions: &[u8; SURVEY_SLOTS],
+    epochs: &[u32; SURVEY_SLOTS],
+    n: usize,
+    leader: usize,
+    k: usize,
+) -> Option<usize>
+    requires { (n ≤ 7) × (leader < n) × (k < 64) }
+    ensures within { IfSome result (λ c. c < n) }
+    ensures lowest { (l : ℕ)
+        → let holds = have (survey_setting n leader) (survey_views l readable conditions.now epochs.now) k
+        in MatchOption result
+        ((j : ℕ) → j < n → holds j ≡ false)
+        (λ c. (holds c ≡ true) × ((j : ℕ) → j < c → holds j ≡ false)) }
 {
-    if donor < n {
-        let replica = donor + 1;
-        return action::FETCH + replica as u8;
+    (0..n).find(|&c| has_slot(readable, conditions, epochs, leader, k, c))
+}
+
+// The plan byte of slot k; none if it is truncated.
+fn slot_byte(
+    readable: u32,
+    conditions: &[u8; SURVEY_SLOTS],
+    epochs: &[u32; SURVEY_SLOTS],
+    n: usize,
+    leader: usize,
+    k: usize,
+) -> Option<u8>
+    requires { (n ≤ 7) × (leader < n) × (k < 64) }
+    ensures { (l : ℕ)
+        → let setting = survey_setting n leader
+        in let views = survey_views l readable conditions.now epochs.now
+        in MatchOption result
+        (is_truncate (rule setting views k) ≡ true)
+        (λ byte. (is_truncate (rule setting views k) ≡ false) × (byte ≡ slot_byte setting views k)) }
+{
+    let condition = conditions[leader * MAX_SLOTS + k];
+    if condition != condition::FAULTY {
+        return Some(kept_byte(condition));
     }
-    action::WAIT
+    match donor(readable, conditions, epochs, n, leader, k) {
+        Some(replica) => Some(action::FETCH + (replica + 1) as u8),
+        None if may_truncate(readable, conditions, epochs, n, leader, k) => None,
+        None => Some(action::WAIT),
+    }
 }
 
 // Plan bytes of the slots below the end of the log.
@@ -57,31 +95,13 @@ pub fn walk_slots<'a>(
         result.bytes result.end }
 {
     let mut bytes = [0u8; MAX_SLOTS];
-    let mut k: usize = 0;
-    'slots: while k < length {
-        let condition = conditions[leader * MAX_SLOTS + k];
-        if condition != condition::FAULTY {
-            bytes[k] = kept_byte(condition);
-            k += 1;
-            continue 'slots;
-        }
-        let mut c: usize = 0;
-        let donor = loop {
-            if n <= c {
-                if may_truncate(readable, conditions, epochs, n, leader, k) {
-                    break 'slots;
-                }
-                break n;
-            }
-            if has_slot(readable, conditions, epochs, leader, k, c) {
-                break c;
-            }
-            c += 1;
+    'slots: for k in 0..length {
+        let Some(byte) = slot_byte(readable, conditions, epochs, n, leader, k) else {
+            return Walk { bytes, end: k };
         };
-        bytes[k] = faulty_byte(donor, n);
-        k += 1;
+        bytes[k] = byte;
     }
-    Walk { bytes, end: k }
+    Walk { bytes, end: length }
 }
 
 // The byte of a used slot from the lowest truncated one on.
@@ -100,10 +120,8 @@ pub fn mark_truncated(bytes: [u8; MAX_SLOTS], end: usize, length: usize) -> [u8;
     ensures { result ≡ listed 64 (marked_byte bytes end length) }
 {
     let mut marked = bytes;
-    let mut k = end;
-    while k < length {
+    for k in end..length {
         marked[k] = truncated_byte(k, end);
-        k += 1;
     }
     marked
 }
@@ -113,12 +131,6 @@ pub fn first_waiting(bytes: &[u8; MAX_SLOTS], end: usize) -> usize
     requires { end ≤ 64 }
     ensures { result ≡ lowest (λ k. eqb (get_or bytes.now k 0) 3) end }
 {
-    let mut k: usize = 0;
-    while k < end {
-        if bytes[k] == action::WAIT {
-            return k;
-        }
-        k += 1;
-    }
-    k
+    let waiting = bytes[..end].iter().position(|&byte| byte == action::WAIT);
+    waiting.unwrap_or(end)
 }
