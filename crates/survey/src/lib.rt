@@ -18,6 +18,7 @@ use survey_slots::copy_slots;
 use view::{ImageView, view_image};
 
 // What is seen of the image of replica c.
+#[tactic(auto, using(image::proofs::CallLaws::slots_high, planner::proofs::SeenLaws::image_there))]
 fn view_replica(cluster: &[u8], shape: Shape, c: usize) -> ImageView
     requires { (shape.n ≤ 7) × (c < shape.n) × (is_slots shape.m ≡ true) × (length cluster.now ≡ image_at shape shape.n) }
     ensures refusal { result.refusal ≡ image_refusal shape.m (decode shape cluster.now c) }
@@ -30,6 +31,7 @@ fn view_replica(cluster: &[u8], shape: Shape, c: usize) -> ImageView
 }
 
 // Surveys the present replicas of a cluster. An image that is refused leaves its replica unreadable.
+#[tactic(auto, using(image::proofs::CallLaws::size_high))]
 pub fn survey_cluster(cluster: &[u8], shape: Shape, present: u32) -> Survey
     requires { (is_size shape.n ≡ true) × (is_slots shape.m ≡ true) × (length cluster.now ≡ image_at shape shape.n) }
     ensures { (leading : ℕ) → Surveyed shape.n shape.m (views_in (setting_of shape leading present) cluster.now)
@@ -40,23 +42,19 @@ pub fn survey_cluster(cluster: &[u8], shape: Shape, present: u32) -> Survey
     let mut lengths = [0usize; MAX_REPLICAS];
     let mut conditions = [0u8; SURVEY_SLOTS];
     let mut epochs = [0u32; SURVEY_SLOTS];
-    let mut c: usize = 0;
-    'replicas: while c < shape.n {
+    'replicas: for c in 0..shape.n {
         if !contains(present, c) {
-            c += 1;
-            continue 'replicas;
+            continue;
         }
         let view = view_replica(cluster, shape, c);
         if view.refusal != 0 {
-            c += 1;
-            continue 'replicas;
+            continue;
         }
         readable = insert(readable, c);
         firsts[c] = view.first;
         lengths[c] = view.length;
         let witness = is_witness(shape, c + 1);
         copy_slots(&mut conditions, &mut epochs, c, witness, view);
-        c += 1;
     }
     Survey {
         readable,

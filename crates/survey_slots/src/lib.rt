@@ -9,19 +9,15 @@ use planner::SURVEY_SLOTS;
 use view::ImageView;
 
 // A condition's number as it is seen of a witness, which lacks no entry where it has a record, or of a card.
+#[tactic(auto, unfolding(planner::specs::Survey::number_as))]
 fn condition_as(condition: u8, witness: bool) -> u8
     ensures { result ≡ number_as witness condition }
 {
-    if !witness {
-        return condition;
+    if witness && condition != condition::UNUSED && condition != condition::LOST {
+        condition::RECORD_ONLY
+    } else {
+        condition
     }
-    if condition == condition::UNUSED {
-        return condition;
-    }
-    if condition == condition::LOST {
-        return condition;
-    }
-    condition::RECORD_ONLY
 }
 
 // Copies what is seen of replica c, a witness or a card, to its slots.
@@ -36,10 +32,8 @@ pub fn copy_slots(
     ensures conditions { Copied c conditions.old (λ k. number_as witness (get_or view.conditions k 0)) conditions.new 64 }
     ensures epochs { Copied c epochs.old (λ k. get_or view.epochs k 0) epochs.new 64 }
 {
-    let mut k: usize = 0;
-    while k < MAX_SLOTS {
+    for k in 0..MAX_SLOTS {
         conditions[c * MAX_SLOTS + k] = condition_as(view.conditions[k], witness);
         epochs[c * MAX_SLOTS + k] = view.epochs[k];
-        k += 1;
     }
 }
