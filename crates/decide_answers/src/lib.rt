@@ -6,11 +6,12 @@ ghost use Rattle.std.specs.Prelude.{ℕ, ◌<◌, ◌≤◌, ◌≡◌, not, ◌
 ghost use Rattle.search.specs.Search.{count};
 ghost use Rattle.search.specs.Sets.{has};
 ghost use Rattle.planner.specs.Rules.{have, dont_have, may_truncate};
+ghost use Rattle.planner.specs.Sets.{set_of};
 ghost use Rattle.planner.specs.Survey.{agrees_at, survey_setting, survey_views};
 
 use image::{MAX_SLOTS, condition};
 use planner::SURVEY_SLOTS;
-use survey_sets::contains;
+use survey_sets::{contains, insert};
 use view_slot::is_whole;
 
 // Whether replica c answers: it is readable and not the leader.
@@ -73,6 +74,24 @@ fn lacks_slot(
     can_answer(readable, leader, c) && !agrees_at(conditions, epochs, leader, c, k)
 }
 
+// The set of the replicas that answer don't-have.
+fn lacking(
+    readable: u32,
+    conditions: &[u8; SURVEY_SLOTS],
+    epochs: &[u32; SURVEY_SLOTS],
+    n: usize,
+    leader: usize,
+    k: usize,
+) -> u32
+    requires { (n ≤ 7) × (leader < 7) × (k < 64) }
+    ensures { (l : ℕ)
+        → result ≡ set_of (dont_have (survey_setting n leader) (survey_views l readable conditions.now epochs.now) k) n }
+{
+    (0..n)
+        .filter(|&c| lacks_slot(readable, conditions, epochs, leader, k, c))
+        .fold(0, insert)
+}
+
 // Whether the possible holders, all that did not answer don't-have, the leader and those away included, are fewer than a majority of n.
 pub fn may_truncate(
     readable: u32,
@@ -86,9 +105,7 @@ pub fn may_truncate(
     ensures { (l : ℕ) → result ≡ may_truncate n
         (count (dont_have (survey_setting n leader) (survey_views l readable conditions.now epochs.now) k) n) }
 {
-    let lacking = (0..n)
-        .filter(|&c| lacks_slot(readable, conditions, epochs, leader, k, c))
-        .count();
-    let holders = n - lacking;
+    let set = lacking(readable, conditions, epochs, n, leader, k);
+    let holders = n - set.count_ones() as usize;
     holders < n / 2 + 1
 }
