@@ -24,51 +24,14 @@ fn kept_byte(condition: u8) -> u8
     }
 }
 
-// The lowest-numbered replica that has the slot intact.
-fn donor(
-    readable: u32,
-    conditions: &[u8; SURVEY_SLOTS],
-    epochs: &[u32; SURVEY_SLOTS],
-    n: usize,
-    leader: usize,
-    k: usize,
-) -> Option<usize>
-    requires { (n ≤ 7) × (leader < n) × (k < 64) }
-    ensures within { IfSome result (λ c. c < n) }
-    ensures lowest { (l : ℕ)
-        → let holds = have (survey_setting n leader) (survey_views l readable conditions.now epochs.now) k
-        in MatchOption result
-        ((j : ℕ) → j < n → holds j ≡ false)
-        (λ c. (holds c ≡ true) × ((j : ℕ) → j < c → holds j ≡ false)) }
+// The plan byte of a faulty slot that is not truncated: fetch from the donor, or wait where there is none.
+fn faulty_byte(donor: Option<usize>) -> u8
+    requires { IfSome donor (λ c. c < 7) }
+    ensures { MatchOption donor (result ≡ 3) (λ c. result ≡ 11 + c) }
 {
-    (0..n).find(|&c| has_slot(readable, conditions, epochs, leader, k, c))
-}
-
-// The plan byte of slot k; none if it is truncated.
-fn slot_byte(
-    readable: u32,
-    conditions: &[u8; SURVEY_SLOTS],
-    epochs: &[u32; SURVEY_SLOTS],
-    n: usize,
-    leader: usize,
-    k: usize,
-) -> Option<u8>
-    requires { (n ≤ 7) × (leader < n) × (k < 64) }
-    ensures { (l : ℕ)
-        → let setting = survey_setting n leader
-        in let views = survey_views l readable conditions.now epochs.now
-        in MatchOption result
-        (is_truncate (rule setting views k) ≡ true)
-        (λ byte. (is_truncate (rule setting views k) ≡ false) × (byte ≡ slot_byte setting views k)) }
-{
-    let condition = conditions[leader * MAX_SLOTS + k];
-    if condition != condition::FAULTY {
-        return Some(kept_byte(condition));
-    }
-    match donor(readable, conditions, epochs, n, leader, k) {
-        Some(replica) => Some(action::FETCH + (replica + 1) as u8),
-        None if may_truncate(readable, conditions, epochs, n, leader, k) => None,
-        None => Some(action::WAIT),
+    match donor {
+        Some(replica) => action::FETCH + (replica + 1) as u8,
+        None => action::WAIT,
     }
 }
 
@@ -95,13 +58,29 @@ pub fn walk_slots<'a>(
         result.bytes result.end }
 {
     let mut bytes = [0u8; MAX_SLOTS];
-    'slots: for k in 0..length {
-        let Some(byte) = slot_byte(readable, conditions, epochs, n, leader, k) else {
-            return Walk { bytes, end: k };
-        };
-        bytes[k] = byte;
-    }
-    Walk { bytes, end: length }
+    let end = 'slots: {
+        for k in 0..length {
+            let condition = conditions[leader * MAX_SLOTS + k];
+            if condition != condition::FAULTY {
+                bytes[k] = kept_byte(condition);
+                continue;
+            }
+            let donor = 'replicas: {
+                for c in 0..n {
+                    if has_slot(readable, conditions, epochs, leader, k, c) {
+                        break 'replicas Some(c);
+                    }
+                }
+                None
+            };
+            if donor.is_none() && may_truncate(readable, conditions, epochs, n, leader, k) {
+                break 'slots k;
+            }
+            bytes[k] = faulty_byte(donor);
+        }
+        length
+    };
+    Walk { bytes, end }
 }
 
 // The byte of a used slot from the lowest truncated one on.

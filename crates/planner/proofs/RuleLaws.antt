@@ -49,7 +49,7 @@ donor_is S W k d = lowest_is (have S W k) S.shape.n d
 pub walked_none : (S : Setting) (W : ℕ → View) (bytes : List ℕ) → length bytes ≡ 64 → ((j : ℕ) → get_or bytes j 0 ≡ 0) → Walked S W bytes 0
 walked_none S W bytes n z = record { sized = n; standing = λ j l. absurd (omega arith); passed = λ j l. absurd (omega arith); ahead = λ j l. z j }
 
-walked_more : (S : Setting) (W : ℕ → View) {bytes : List ℕ} {x : ℕ} (k : ℕ) → Walked S W bytes k → k < 64 → is_truncate (rule S W k) ≡ false → x ≡ slot_byte S W k → Walked S W (set bytes k x) (k + 1)
+pub walked_more : (S : Setting) (W : ℕ → View) {bytes : List ℕ} {x : ℕ} (k : ℕ) → Walked S W bytes k → k < 64 → is_truncate (rule S W k) ≡ false → x ≡ slot_byte S W k → Walked S W (set bytes k x) (k + 1)
 walked_more S W {bytes} {x} k w h t e = record {
   sized = length-set bytes k x ∙ w.sized;
   standing = λ j l. stand j (ℕ_discrete j k) l;
