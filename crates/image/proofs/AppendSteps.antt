@@ -1,7 +1,7 @@
 -- Formatting and appending, test by test: which refusal it is, and what is answered and left then.
 use Prim.Native.Nat.{ℕ, suc, ◌+◌, ◌-◌, ◌*◌, ◌≤◌, ◌<◌}
 use mathlib.Core.Path.{◌≡◌, refl, sym, ap, ◌∙◌}
-use mathlib.Core.Bool.{true, false, cond, ◌||◌}
+use mathlib.Core.Bool.{true, cond, ◌||◌}
 use mathlib.Core.List.{List, [], ◌++◌}
 use native.Mathlib.Omega.{arith}
 use native.Mathlib.Nat.{mul-le-mul_left}
@@ -18,7 +18,8 @@ use Rattle.record.specs.Layout.{is_witness, header_size, header_bytes, record_by
 use Rattle.record.specs.Meaning.{first_index}
 use Rattle.record.proofs.LayoutLaws.{length_header, length_entry}
 use Rattle.record.proofs.WriteLaws.{start, then, whole}
-use Rattle.image.specs.Refusal.{refuse, ◌else◌}
+use Rattle.image.specs.declared.refusal.Refusal.{Refusal}
+use Rattle.image.specs.Refusal.{refusal_number, refuse, ◌else◌}
 use Rattle.image.specs.Image.{Image, index, image_size, record_at, entry_at, decode_image, fresh_image}
 use Rattle.image.specs.View.{epoch_at, log_length, card_refusal, witness_refusal}
 use Rattle.image.specs.declared.condition.Condition.TheVariants.{Unused}
@@ -36,54 +37,50 @@ use Rattle.image.proofs.DecodeLaws.{size_is, record_begins, records_end, entries
 use Rattle.image.proofs.AcceptLaws.{accepts_elim, record_accepts_elim}
 use Rattle.image.proofs.FreshLaws.{length_records, length_fresh_entries, length_fresh_image}
 
+-- a refusal has a number, which is not 0
+pub number_above : (e : Refusal) → 0 < refusal_number e
+number_above e = grind arith
+
 -- ---- formatting
 
-module _ (Z : Shape) (c first : ℕ) (b : Bytes) {r : ℕ} (is : r ≡ format_refusal Z c first (length b)) where
-  pub format_refused : ¬ (r ≡ 0) → (refused r ≡ format_call_numbers Z c first (length b)) × (b ≡ formatted Z c first b)
-  unfolding numbered formatted
-  format_refused h = let off = ne_eqb r 0 h in (sym (rw (← is, off)), sym (rw (← is, off)))
+module _ (Z : Shape) (c first : ℕ) (b : Bytes) (free : 0 ≡ format_refusal Z c first (length b)) where
+  pub format_few : Z.m ≤ 64
+  format_few = slots_high Z.m (called_slots Z c (length b) (formatted_call Z c first (length b) (sym free)))
 
-  module _ (free : r ≡ 0) where
-    pub format_few : Z.m ≤ 64
-    format_few = slots_high Z.m (called_slots Z c (length b) (formatted_call Z c first (length b) (sym is ∙ free)))
+  pub format_size : length b ≡ image_size Z c
+  format_size = called_size Z c (length b) (formatted_call Z c first (length b) (sym free))
 
-    pub format_size : length b ≡ image_size Z c
-    format_size = called_size Z c (length b) (formatted_call Z c first (length b) (sym is ∙ free))
+  module _ (f : ℕ) {x : Bytes} (p : x ≡ spliced b 0 (header_bytes Z c f)) where
+    pub headed_size : length x ≡ image_size Z c
+    headed_size = ap length p ∙ length_spliced b 0 (header_bytes Z c f) (omega (arith, length_header Z c f, format_size, size_is Z c)) ∙ format_size
 
-    pub headed_size : {x : Bytes} → x ≡ spliced b 0 (header_bytes Z c first) → length x ≡ image_size Z c
-    headed_size p = ap length p ∙ length_spliced b 0 (header_bytes Z c first) (omega (arith, length_header Z c first, format_size, size_is Z c)) ∙ format_size
+    module _ {y : Bytes} (q : y ≡ spliced x (header_size Z) (joined Z.m (λ k. blank_record))) where
+      pub blanked_size : length y ≡ image_size Z c
+      blanked_size = ap length q ∙ length_spliced x (header_size Z) (joined Z.m (λ k. blank_record)) (omega (arith, length_records Z.m, headed_size, size_is Z c)) ∙ headed_size
 
-    pub blanked_size : {x y : Bytes} → x ≡ spliced b 0 (header_bytes Z c first) → y ≡ spliced x (header_size Z) (joined Z.m (λ k. blank_record)) → length y ≡ image_size Z c
-    blanked_size {x} p q = ap length q ∙ length_spliced x (header_size Z) (joined Z.m (λ k. blank_record)) (omega (arith, length_records Z.m, headed_size p, size_is Z c)) ∙ headed_size p
+      pub format_done : f ≡ first → {z : Bytes} → z ≡ spliced y (header_size Z + 34 * Z.m) (cond (is_witness Z c) [] (joined Z.m (λ k. fresh_entry)))
+          → (value tt ≡ format_call_numbers Z c first (length b)) × (z ≡ formatted Z c first b)
+      unfolding numbered formatted
+      format_done e {z} s = (sym (rw (← free)), made ∙ sym (rw (← free, ← e)))
+        where
+          head : length (header_bytes Z c f) ≡ header_size Z
+          head = length_header Z c f
 
-  pub format_done : r ≡ 0 → {x y z : Bytes} → x ≡ spliced b 0 (header_bytes Z c first) → y ≡ spliced x (header_size Z) (joined Z.m (λ k. blank_record))
-      → z ≡ spliced y (header_size Z + 34 * Z.m) (cond (is_witness Z c) [] (joined Z.m (λ k. fresh_entry))) → (value tt ≡ format_call_numbers Z c first (length b)) × (z ≡ formatted Z c first b)
-  unfolding numbered formatted
-  format_done h {x} {y} {z} p q s = (sym (rw (← is, h)), made ∙ sym (rw (← is, h)))
-    where
-      head : length (header_bytes Z c first) ≡ header_size Z
-      head = length_header Z c first
+          records : length (header_bytes Z c f ++ joined Z.m (λ k. blank_record)) ≡ header_size Z + 34 * Z.m
+          records = length-append (header_bytes Z c f) (joined Z.m (λ k. blank_record)) ∙ omega (arith, head, length_records Z.m)
 
-      records : length (header_bytes Z c first ++ joined Z.m (λ k. blank_record)) ≡ header_size Z + 34 * Z.m
-      records = length-append (header_bytes Z c first) (joined Z.m (λ k. blank_record)) ∙ omega (arith, head, length_records Z.m)
+          made : z ≡ fresh_image Z c f
+          made =
+              unfold fresh_image in
+              (let x = then (image_size Z c) 0 (header_bytes Z c f) (start _ b format_size) refl (omega (arith, head, size_is Z c)) p in
+              let y = then (image_size Z c) (header_size Z) (joined Z.m (λ k. blank_record)) x head (omega (arith, length_records Z.m, size_is Z c)) q in
+              let z = then (image_size Z c) (header_size Z + 34 * Z.m) (cond (is_witness Z c) [] (joined Z.m (λ k. fresh_entry))) y records (omega (arith, length_fresh_entries Z c, size_is Z c)) s in
+              whole z (length_fresh_image Z c f))
 
-      made : z ≡ fresh_image Z c first
-      made =
-          unfold fresh_image in
-          (let x = then (image_size Z c) 0 (header_bytes Z c first) (start _ b (format_size h)) refl (omega (arith, head, size_is Z c)) p in
-          let y = then (image_size Z c) (header_size Z) (joined Z.m (λ k. blank_record)) x head (omega (arith, length_records Z.m, size_is Z c)) q in
-          let z = then (image_size Z c) (header_size Z + 34 * Z.m) (cond (is_witness Z c) [] (joined Z.m (λ k. fresh_entry))) y records (omega (arith, length_fresh_entries Z c, size_is Z c)) s in
-          whole z (length_fresh_image Z c first))
-
--- the entries of a card, and of a witness none
-module _ (Z : Shape) (c : ℕ) (b : Bytes) (at : ℕ) where
-  pub entries_put : is_witness Z c ≡ false → {y : Bytes} → y ≡ spliced b at (joined Z.m (λ k. fresh_entry))
-      → y ≡ spliced b at (cond (is_witness Z c) [] (joined Z.m (λ k. fresh_entry)))
-  entries_put card h = rw card h
-
-  pub entries_none : is_witness Z c ≡ true → b ≡ spliced b at (cond (is_witness Z c) [] (joined Z.m (λ k. fresh_entry)))
-  unfolding spliced
-  entries_none witness = let z : at + 0 ≡ at = omega arith in rw (witness, z) (sym (take-append-drop at b))
+-- a witness has no entries
+pub entries_none : (Z : Shape) (c : ℕ) (b : Bytes) (at : ℕ) → is_witness Z c ≡ true → b ≡ spliced b at (cond (is_witness Z c) [] (joined Z.m (λ k. fresh_entry)))
+unfolding spliced
+entries_none Z c b at witness = let z : at + 0 ≡ at = omega arith in rw (witness, z) (sym (take-append-drop at b))
 
 -- ---- appending: refusals 8 to 10
 
