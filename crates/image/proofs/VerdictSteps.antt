@@ -5,6 +5,7 @@ use mathlib.Core.Bool.{Bool, true, false}
 use mathlib.Core.List.{List}
 use native.Mathlib.Omega.{arith}
 use lib.ListN.{length, take, drop, set, replicate}
+use denote.Enum.Declared.{tag_of}
 use borrow.Author.Tests.{eq-eqb, ne_eqb}
 use Rattle.search.specs.Search.{listed}
 use Rattle.std.specs.Prelude.{Option, Some, None}
@@ -24,7 +25,10 @@ use Rattle.image.specs.Image.{Image, entry_at, index, decode_under}
 use Rattle.image.specs.declared.condition.Condition.TheVariants.{Unused, Faulty}
 use Rattle.image.specs.declared.condition.Slot.{Slot}
 use Rattle.image.specs.Seen.{slot_of, slot_in}
-use Rattle.image.specs.Verdict.{is_fresh, verdict_of, verdict_at}
+use Rattle.image.specs.contracts.verdict.Verdict.{the_type}
+use Rattle.image.specs.declared.verdict.Verdict.{Verdict}
+use Rattle.image.specs.declared.verdict.Verdict.TheVariants as verdict
+use Rattle.image.specs.Verdict.{is_fresh, verdict_number, verdict_of, verdict_at}
 use Rattle.image.specs.Scan.{Marked}
 use Rattle.image.specs.Read.{verdicts_of}
 use Rattle.image.proofs.DecodeLaws.{entry_under, entry_ends}
@@ -89,6 +93,16 @@ module _ (k used : ℕ) (x : Entry) where
   pub unused_unfinished : {t : Bool} → t ≡ is_fresh x → k ≡ used → t ≡ false → UnusedIs 5
   unfolding verdict_of
   unused_unfinished e l t = sym (rw (eq-eqb k used l, ← e, t))
+
+-- a verdict as a byte is its number
+pub verdict_byte : (v : Verdict) → tag_of the_type v ≡ verdict_number v
+verdict_byte verdict.Unused = refl
+verdict_byte verdict.Whole = refl
+verdict_byte verdict.RecordLost = refl
+verdict_byte verdict.Corrupt = refl
+verdict_byte verdict.Ambiguous = refl
+verdict_byte verdict.Partial = refl
+verdict_byte verdict.Stale = refl
 
 -- ---- the slots one after another
 
