@@ -1,11 +1,10 @@
 -- A header judged: the first index that it could give, and the bytes that the writer writes for that.
 use Prim.Native.Nat.{ℕ, ◌≤◌}
 use mathlib.Core.Path.{◌≡◌, sym, ap, ◌∙◌}
-use mathlib.Core.Bool.{Bool, true, false, not}
+use mathlib.Core.Bool.{Bool, true, false}
 use native.Mathlib.Omega.{arith}
 use lib.ListN.{length, take, drop}
 use Rattle.std.specs.Prelude.{Some, None}
-use borrow.Author.Tests.{not-true, not-false}
 use Rattle.slices.specs.Parts.{Bytes, part}
 use Rattle.slices.specs.Same.{same}
 use Rattle.slices.proofs.SameLaws.{and_left, and_off, same_lengths}
@@ -31,14 +30,14 @@ module _ (Z : Shape) (c first : ℕ) (b : Bytes) {g : ℕ} {t : Bool} (is : t �
   first_is : is_first Z first ≡ t
   first_is = ap (is_first Z) (sym same_first) ∙ sym is
 
-  pub header_no_first : not t ≡ true → false ≡ is_header Z c first b
+  pub header_no_first : t ≡ false → false ≡ is_header Z c first b
   unfolding is_header
-  header_no_first h = sym (rw (first_is, not-true t h))
+  header_no_first h = sym (rw (first_is, h))
 
   -- the bytes decide, of the writer's header for these numbers
-  pub header_bytes_lem : not t ≡ false → {d f : ℕ} {r : Bool} → d ≡ c → f ≡ first → r ≡ same b (header_bytes Z d f) → r ≡ is_header Z c first b
+  pub header_bytes_lem : t ≡ true → {d f : ℕ} {r : Bool} → d ≡ c → f ≡ first → r ≡ same b (header_bytes Z d f) → r ≡ is_header Z c first b
   unfolding is_header
-  header_bytes_lem h {d} {f} p q e = e ∙ sym (rw (first_is, not-false t h, p, q))
+  header_bytes_lem h {d} {f} p q e = e ∙ sym (rw (first_is, h, p, q))
 
 module _ (Z : Shape) (c : ℕ) (b : Bytes) where
   -- no header has another length
