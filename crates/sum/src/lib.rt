@@ -38,7 +38,8 @@ fn combined(sums: Sums) -> u32
     (sums.b << 16) + sums.a
 }
 
-// The sums after all bytes, chunk after chunk.
+// The sums after all bytes, chunk after chunk. Compiled by itself, so that few bytes wait for no register to be saved.
+#[inline(never)]
 fn after_chunks(s: &[u8]) -> Sums
     ensures first { result.a ≡ sum_a 1 s.now }
     ensures second { result.b ≡ sum_b 1 0 s.now }
