@@ -1,7 +1,8 @@
 // What is seen of each replica, in numbers: each present image is read once.
 #![tactic(auto)]
 
-ghost use Rattle.std.specs.Prelude.{ℕ, ◌<◌, ◌≤◌, ◌≡◌, true, length};
+ghost use Rattle.std.specs.Prelude.{ℕ, ◌<◌, ◌≤◌, ◌≡◌, true, length, IfOk};
+ghost use Rattle.image.specs.Refusal.{refusal_of};
 ghost use Rattle.image.specs.View.{is_size, is_slots, image_refusal};
 ghost use Rattle.image.specs.Seen.{Seen};
 ghost use Rattle.image.specs.Cluster.{image_at, decode};
@@ -10,6 +11,7 @@ ghost use Rattle.planner.specs.Plan.{views_in};
 ghost use Rattle.planner.specs.Survey.{Surveyed};
 
 use image::MAX_REPLICAS;
+use image::refusal::Refusal;
 use locate::{image_at, image_size, is_witness};
 use planner::{SURVEY_SLOTS, Survey};
 use record::Shape;
@@ -19,11 +21,10 @@ use view::{ImageView, view_image};
 
 // What is seen of the image of replica c.
 #[tactic(auto, using(image::proofs::CallLaws::slots_high, planner::proofs::SeenLaws::image_there))]
-fn view_replica(cluster: &[u8], shape: Shape, c: usize) -> ImageView
+fn view_replica(cluster: &[u8], shape: Shape, c: usize) -> Result<ImageView, Refusal>
     requires { (shape.n ≤ 7) × (c < shape.n) × (is_slots shape.m ≡ true) × (length cluster.now ≡ image_at shape shape.n) }
-    ensures refusal { result.refusal ≡ image_refusal shape.m (decode shape cluster.now c) }
-    ensures seen { result.refusal ≡ 0
-        → Seen shape.m (decode shape cluster.now c) result.first result.length result.conditions result.epochs }
+    ensures refusal { refusal_of result ≡ image_refusal shape.m (decode shape cluster.now c) }
+    ensures seen { IfOk result (λ v. Seen shape.m (decode shape cluster.now c) v.first v.length v.slots) }
 {
     let start = image_at(shape, c);
     let end = start + image_size(shape, c + 1);
@@ -46,10 +47,9 @@ pub fn survey_cluster(cluster: &[u8], shape: Shape, present: u32) -> Survey
         if !contains(present, c) {
             continue;
         }
-        let view = view_replica(cluster, shape, c);
-        if view.refusal != 0 {
+        let Ok(view) = view_replica(cluster, shape, c) else {
             continue;
-        }
+        };
         readable = insert(readable, c);
         firsts[c] = view.first;
         lengths[c] = view.length;
