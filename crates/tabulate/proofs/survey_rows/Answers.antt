@@ -1,4 +1,3 @@
-use Prim.Native.Nat.{◌-◌}
 use Rattle.planner.proofs.RowLaws.{rows_none, rows_more, rows_all}
 use borrow.Author.Rules.{rules}
 use native.Mathlib.Omega.{arith}
