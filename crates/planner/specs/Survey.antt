@@ -38,7 +38,7 @@ condition_from (suc (suc (suc zero))) = Faulty
 condition_from (suc (suc (suc (suc zero)))) = Lost
 condition_from (suc (suc (suc (suc (suc x))))) = RecordOnly
 
--- the number of a condition, as it is seen of a witness or of a card (`conditionAs`)
+-- the number of a condition, as it is seen of a witness or of a card (`condition_as`)
 unfoldable pub number_as : Bool → ℕ → ℕ
 number_as witness x = cond (witness && (not (eqb x 0) && not (eqb x 4))) 5 x
 

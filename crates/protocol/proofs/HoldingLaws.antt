@@ -1,5 +1,5 @@
--- Whose logs hold one epoch at a slot: none of them answers don't-have there or below (`holding-quorum`), and none is truncated there
--- (`differing-above`).
+-- Whose logs hold one epoch at a slot: none of them answers don't-have there or below (`holding_quorum`), and none is truncated there
+-- (`differing_above`).
 use mathlib.Core.Path.{◌≡◌, refl, sym, ap, ◌∙◌}
 use mathlib.Core.Bool.{Bool, true, false, cond, not, true≢false}
 use Prim.Native.Nat.{ℕ, zero, suc, ◌+◌, ◌-◌, ◌≤◌, ◌<◌}
