@@ -27,7 +27,7 @@ use Rattle.image.specs.declared.condition.Slot.{Slot}
 use Rattle.image.specs.Seen.{slot_of, slot_in, Seen}
 use Rattle.image.specs.Append.{last_epoch, format_refusal, append_refusal, stored, appended, formatted}
 use Rattle.image.specs.Witness.{record_refusal, recorded, record_appended}
-use Rattle.image.specs.Answers.{refused, value, numbered, format_call_numbers}
+use Rattle.image.specs.Answers.{value, numbered, format_call_numbers}
 use Rattle.image.proofs.RefusalLaws.{refuse_off, else_next, else_first}
 use Rattle.image.proofs.CallLaws.{slots_high, called_slots, called_size, formatted_call}
 use Rattle.image.proofs.ReadLaws.{opened_slots, opened_size, opened_card, witnessed_slots, witnessed_size}
@@ -126,53 +126,53 @@ last_seen m i {len = len} {slots = slots} s = rw (← s.length_is) (go (ℕ_disc
 -- ---- appending: which refusal it is
 
 -- to a card
-module _ (Z : Shape) (c : ℕ) (b : Bytes) (e size : ℕ) {r : ℕ} (call : r ≡ card_refusal Z c b) where
-  pub refused_call : ¬ (r ≡ 0) → append_refusal Z c b e size ≡ r
+module _ (Z : Shape) (c : ℕ) (b : Bytes) (e size : ℕ) where
+  pub refused_call : (r : Refusal) → refusal_number r ≡ card_refusal Z c b → append_refusal Z c b e size ≡ refusal_number r
   unfolding append_refusal
-  refused_call h = else_first _ _ (λ q. h (call ∙ q)) ∙ sym call
+  refused_call r call = else_first _ _ (λ q. omega (arith, q, number_above r, call)) ∙ sym call
 
-  module _ (free : r ≡ 0) {first len : ℕ} {slots : List Slot} (s : Seen Z.m (decode_image Z c b) first len slots) where
+  module _ (free : 0 ≡ card_refusal Z c b) {first len : ℕ} {slots : List Slot} (s : Seen Z.m (decode_image Z c b) first len slots) where
     pub used_few : len ≤ 64
-    used_few = omega (arith, s.length_is, length_le Z.m (decode_image Z c b), slots_high Z.m (opened_slots Z c b r call free))
+    used_few = omega (arith, s.length_is, length_le Z.m (decode_image Z c b), slots_high Z.m (opened_slots Z c b 0 free refl))
 
     module _ {last d : ℕ} (l : last ≡ cond (eqb len 0) 0 (slot_in slots (len - 1)).epoch)
         (k : d ≡ (refuse 8 (eqb e 0 || ltb e last) else refuse 9 (ltb 200 size) else refuse 10 (leb Z.m len))) where
       pub refused_append : append_refusal Z c b e size ≡ d
       unfolding append_refusal
-      refused_append = else_next _ (sym call ∙ free) ∙ sym (rw (l ∙ last_seen Z.m (decode_image Z c b) s, s.length_is) at k)
+      refused_append = else_next _ (sym free) ∙ sym (rw (l ∙ last_seen Z.m (decode_image Z c b) s, s.length_is) at k)
 
       -- an append that goes on
-      pub slot_free : d ≡ 0 → (Z.m ≤ 64) × (len < Z.m) × (entry_at Z Z.m ≤ length b) × (size ≤ 200)
+      pub slot_free : 0 ≡ d → (Z.m ≤ 64) × (len < Z.m) × (entry_at Z Z.m ≤ length b) × (size ≤ 200)
       slot_free z =
-          let a = accepts_elim Z c b e size (refused_append ∙ z) in
-          (slots_high Z.m (opened_slots Z c b r call free), omega (arith, s.length_is, a.room), omega (arith, opened_size Z c b r call free, entries_end Z c (opened_card Z c b r call free)), a.short)
+          let a = accepts_elim Z c b e size (refused_append ∙ sym z) in
+          (slots_high Z.m (opened_slots Z c b 0 free refl), omega (arith, s.length_is, a.room), omega (arith, opened_size Z c b 0 free refl, entries_end Z c (opened_card Z c b 0 free refl)), a.short)
 
 -- to a witness: a payload of no bytes is never too long
 pub bare : (x y : ℕ) → (x else refuse 9 (ltb 200 0) else y) ≡ (x else y)
 bare x y = ap (λ (z : ℕ). x else z) (else_next y (refuse_off 9 refl))
 
-module _ (Z : Shape) (c : ℕ) (b : Bytes) (e : ℕ) {r : ℕ} (call : r ≡ witness_refusal Z c b) where
-  pub record_call : ¬ (r ≡ 0) → record_refusal Z c b e ≡ r
+module _ (Z : Shape) (c : ℕ) (b : Bytes) (e : ℕ) where
+  pub record_call : (r : Refusal) → refusal_number r ≡ witness_refusal Z c b → record_refusal Z c b e ≡ refusal_number r
   unfolding record_refusal
-  record_call h = else_first _ _ (λ q. h (call ∙ q)) ∙ sym call
+  record_call r call = else_first _ _ (λ q. omega (arith, q, number_above r, call)) ∙ sym call
 
-  module _ (free : r ≡ 0) {first len : ℕ} {slots : List Slot} (s : Seen Z.m (decode_image Z c b) first len slots) where
+  module _ (free : 0 ≡ witness_refusal Z c b) {first len : ℕ} {slots : List Slot} (s : Seen Z.m (decode_image Z c b) first len slots) where
     pub used_short : len ≤ 64
-    used_short = omega (arith, s.length_is, length_le Z.m (decode_image Z c b), slots_high Z.m (witnessed_slots Z c b r call free))
+    used_short = omega (arith, s.length_is, length_le Z.m (decode_image Z c b), slots_high Z.m (witnessed_slots Z c b 0 free refl))
 
     module _ {last d : ℕ} (l : last ≡ cond (eqb len 0) 0 (slot_in slots (len - 1)).epoch)
         (k : d ≡ (refuse 8 (eqb e 0 || ltb e last) else refuse 9 (ltb 200 0) else refuse 10 (leb Z.m len))) where
       pub refused_record : record_refusal Z c b e ≡ d
       unfolding record_refusal
       refused_record =
-          else_next _ (sym call ∙ free)
+          else_next _ (sym free)
           ∙ sym (bare (refuse 8 (eqb e 0 || ltb e (last_epoch Z.m (decode_image Z c b)))) (refuse 10 (leb Z.m (log_length Z.m (decode_image Z c b)))))
           ∙ sym (rw (l ∙ last_seen Z.m (decode_image Z c b) s, s.length_is) at k)
 
-      pub record_free : d ≡ 0 → (Z.m ≤ 64) × (len < Z.m) × (record_at Z Z.m ≤ length b)
+      pub record_free : 0 ≡ d → (Z.m ≤ 64) × (len < Z.m) × (record_at Z Z.m ≤ length b)
       record_free z =
-          let a = record_accepts_elim Z c b e (refused_record ∙ z) in
-          (slots_high Z.m (witnessed_slots Z c b r call free), omega (arith, s.length_is, a.room), omega (arith, witnessed_size Z c b r call free, records_end Z c))
+          let a = record_accepts_elim Z c b e (refused_record ∙ sym z) in
+          (slots_high Z.m (witnessed_slots Z c b 0 free refl), omega (arith, s.length_is, a.room), omega (arith, witnessed_size Z c b 0 free refl, records_end Z c))
 
 -- ---- appending: the slot
 
@@ -190,19 +190,14 @@ module _ (Z : Shape) (first k : ℕ) (b : Bytes) (km : k < Z.m) (size : entry_at
     unfolding stored
     slot_stored r = rw (r, q, i, place, line)
 
--- ---- appending: what is answered and left
+-- ---- appending: what is left
 
-module _ (Z : Shape) (c : ℕ) (b : Bytes) (e : ℕ) (p : Bytes) {r : ℕ} (is : append_refusal Z c b e (length p) ≡ r) where
-  pub append_refused : ¬ (r ≡ 0)
-      → (refused r ≡ numbered (append_refusal Z c b e (length p)) (suc (log_length Z.m (decode_image Z c b)))) × (b ≡ appended Z c b e p)
-  unfolding numbered appended
-  append_refused h = let off = ne_eqb r 0 h in (sym (rw (is, off)), sym (rw (is, off)))
-
-  pub append_done : r ≡ 0 → {first k : ℕ} {d : Bytes} → first ≡ first_index (decode_image Z c b).header → k ≡ log_length Z.m (decode_image Z c b)
-      → d ≡ stored Z first b k e p
-      → (value (k + 1) ≡ numbered (append_refusal Z c b e (length p)) (suc (log_length Z.m (decode_image Z c b)))) × (d ≡ appended Z c b e p)
-  unfolding numbered appended
-  append_done h f q s = (sym (rw (is, h, ← q, add-one)), rw (is, h, ← q, ← first_is Z c b, ← f) s)
+pub append_done : (Z : Shape) (c : ℕ) (b : Bytes) (e : ℕ) (p : Bytes) → append_refusal Z c b e (length p) ≡ 0
+    → {first k : ℕ} {d : Bytes} → first ≡ first_index (decode_image Z c b).header → k ≡ log_length Z.m (decode_image Z c b)
+    → d ≡ stored Z first b k e p
+    → (value (k + 1) ≡ numbered (append_refusal Z c b e (length p)) (suc (log_length Z.m (decode_image Z c b)))) × (d ≡ appended Z c b e p)
+unfolding numbered appended
+append_done Z c b e p is f q s = (sym (rw (is, ← q, add-one)), rw (is, ← q, ← first_is Z c b, ← f) s)
 
 -- ---- a witness's record
 
@@ -214,14 +209,9 @@ pub slot_recorded : (Z : Shape) (first k : ℕ) (b : Bytes) (e : ℕ) {j : ℕ} 
 unfolding recorded
 slot_recorded Z first k b e i line r = rw (r, i, line)
 
-module _ (Z : Shape) (c : ℕ) (b : Bytes) (e : ℕ) {r : ℕ} (is : record_refusal Z c b e ≡ r) where
-  pub record_refused : ¬ (r ≡ 0)
-      → (refused r ≡ numbered (record_refusal Z c b e) (suc (log_length Z.m (decode_image Z c b)))) × (b ≡ record_appended Z c b e)
-  unfolding numbered record_appended
-  record_refused h = let off = ne_eqb r 0 h in (sym (rw (is, off)), sym (rw (is, off)))
-
-  pub record_done : r ≡ 0 → {first k : ℕ} {d : Bytes} → first ≡ first_index (decode_image Z c b).header → k ≡ log_length Z.m (decode_image Z c b)
-      → d ≡ recorded Z first b k e
-      → (value (k + 1) ≡ numbered (record_refusal Z c b e) (suc (log_length Z.m (decode_image Z c b)))) × (d ≡ record_appended Z c b e)
-  unfolding numbered record_appended
-  record_done h f q s = (sym (rw (is, h, ← q, add-one)), rw (is, h, ← q, ← first_is Z c b, ← f) s)
+pub record_done : (Z : Shape) (c : ℕ) (b : Bytes) (e : ℕ) → record_refusal Z c b e ≡ 0
+    → {first k : ℕ} {d : Bytes} → first ≡ first_index (decode_image Z c b).header → k ≡ log_length Z.m (decode_image Z c b)
+    → d ≡ recorded Z first b k e
+    → (value (k + 1) ≡ numbered (record_refusal Z c b e) (suc (log_length Z.m (decode_image Z c b)))) × (d ≡ record_appended Z c b e)
+unfolding numbered record_appended
+record_done Z c b e is f q s = (sym (rw (is, ← q, add-one)), rw (is, ← q, ← first_is Z c b, ← f) s)

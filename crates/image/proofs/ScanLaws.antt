@@ -8,7 +8,6 @@ use native.Mathlib.Omega.{arith}
 use lib.Dec.{leb, ltb}
 use lib.ListN.{length, take}
 use borrow.Author.Tests.{lt-ltb, le-ltb, le-leb, lt-leb}
-use Rattle.search.specs.Search.{all}
 use Rattle.search.proofs.SearchLaws.{lowest_is, lowest_le, all_intro, all_off}
 use Rattle.image.specs.Refusal.{refuse, ◌else◌}
 use Rattle.image.specs.View.{is_unused}
