@@ -5,7 +5,7 @@ use mathlib.Core.Bool.{Bool, true, false, not, ◌&&◌}
 use mathlib.Core.List.{List}
 use native.Mathlib.Omega.{arith}
 use lib.Dec.{eqb, leb}
-use lib.ListN.{length, take}
+use lib.ListN.{length}
 use borrow.Author.Tests.{ne_eqb, le-leb, lt-leb, leb-true, not-true}
 use Rattle.std.specs.Prelude.{Option, Some, None}
 use Rattle.slices.specs.Parts.{Bytes, part}
@@ -22,29 +22,35 @@ use Rattle.image.specs.Image.{Image, index, entry_at, decode_under, decode_image
 use Rattle.image.specs.View.{condition, condition_at, card_refusal}
 use Rattle.image.specs.declared.condition.Condition.TheVariants.{Unused}
 use Rattle.search.specs.Search.{listed}
+use Rattle.search.proofs.ListedLaws.{length_listed, get_d_listed}
 use Rattle.image.specs.declared.condition.Slot.{Slot}
 use Rattle.image.specs.Seen.{slot_of, slot_in}
 use Rattle.image.specs.Scan.{SpanIn}
 use Rattle.image.specs.Read.{is_whole, has_payload, payload_of, payload_at}
-use Rattle.image.specs.Answers.{refused, value, numbered}
+use Rattle.image.specs.Answers.{value, numbered}
 use Rattle.image.proofs.DecodeLaws.{entry_under, entry_ends}
-use Rattle.image.proofs.ScannedLaws.{taken_at}
 
 -- ---- whether there is a payload
 
-module _ (m slot : ℕ) (slots : List Slot) where
-  pub whole_low : slot < 1 → (i : Image) → take m slots ≡ listed m (slot_of i) → false ≡ has_payload m i slot
-  unfolding has_payload
-  whole_low h i e = sym (rw (lt-leb 1 slot h))
+module _ (slot : ℕ) (slots : List Slot) (m : ℕ) (i : Image) (e : slots ≡ listed m (slot_of i)) where
+  as_many : length slots ≡ m
+  as_many = ap length e ∙ length_listed m (slot_of i)
 
-  pub whole_high : m < slot → (i : Image) → take m slots ≡ listed m (slot_of i) → false ≡ has_payload m i slot
+  pub whole_low : slot < 1 → false ≡ has_payload m i slot
   unfolding has_payload
-  whole_high h i e = sym (rw (lt-leb slot m h) (simp and_off))
+  whole_low h = sym (rw (lt-leb 1 slot h))
 
-  pub whole_at : 1 ≤ slot → slot ≤ m → (i : Image) → take m slots ≡ listed m (slot_of i) → has_payload m i slot ≡ is_whole (slot_in slots (slot - 1)).condition
+  pub whole_high : length slots < slot → false ≡ has_payload m i slot
   unfolding has_payload
-  whole_at lo hi i e =
-      rw (le-leb 1 slot lo, le-leb slot m hi, taken_at m (slot_of i) slots (record { condition = Unused; epoch = 0 }) e (slot - 1) (omega arith))
+  whole_high h = sym (rw (lt-leb slot m (omega (arith, as_many, h))) (simp and_off))
+
+  pub whole_at : 1 ≤ slot → slot ≤ length slots → has_payload m i slot ≡ is_whole (slot_in slots (slot - 1)).condition
+  unfolding has_payload
+  whole_at lo hi =
+      let below : slot - 1 < m = omega (arith, as_many, lo, hi) in
+      let there : slot_in slots (slot - 1) ≡ slot_of i (slot - 1)
+      = ap (λ (z : List Slot). slot_in z (slot - 1)) e ∙ get_d_listed m (slot_of i) (slot - 1) (record { condition = Unused; epoch = 0 }) below in
+      rw (le-leb 1 slot lo, le-leb slot m (omega (arith, as_many, hi)), there)
 
 module _ (m slot : ℕ) (i : Image) (h : has_payload m i slot ≡ true) where
   within : leb 1 slot && leb slot m ≡ true
@@ -61,18 +67,9 @@ module _ (m slot : ℕ) (i : Image) (h : has_payload m i slot ≡ true) where
   unfolding has_payload
   has_whole = and_right (leb 1 slot && leb slot m) (is_whole (condition_at i (slot - 1))) h
 
-pub payload_refused : (r q : ℕ) (has : Bool) → r ≡ q → ¬ (r ≡ 0) → refused r ≡ numbered q has
+pub payload_answered : {q : ℕ} {t has : Bool} → 0 ≡ q → t ≡ has → value t ≡ numbered q has
 unfolding numbered
-payload_refused r q has e h = sym (rw (← e, ne_eqb r 0 h))
-
-module _ (r q : ℕ) (t has : Bool) (e : r ≡ q) (h : r ≡ 0) (s : t ≡ has) where
-  pub payload_present : t ≡ true → value true ≡ numbered q has
-  unfolding numbered
-  payload_present u = sym (rw (← e, h, ← s, u))
-
-  pub payload_absent : t ≡ false → value false ≡ numbered q has
-  unfolding numbered
-  payload_absent u = sym (rw (← e, h, ← s, u))
+payload_answered e s = sym (rw (← e, ← s))
 
 -- ---- where a payload stands
 

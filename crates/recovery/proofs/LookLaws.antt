@@ -80,7 +80,7 @@ module _ (S : Setting) (W : ℕ → View) where
     unfolding plan_bytes plan_byte
     byte_at k h =
         let l = end_le S W in
-        taken_at S.shape.m (plan_byte S W) bytes p.bytes_are k (omega arith)
+        taken_at S.shape.m (plan_byte S W) bytes 0 p.bytes_are k (omega arith)
         ∙ rw (lt-ltb k (W S.leader).length (omega arith), le-ltb (end S W) k (omega arith))
 
     pub fetch_found : lowest (λ k. ltb 10 (get_or bytes k 0)) (end S W) ≡ lowest (λ k. is_fetch (rule S W k)) (end S W)
