@@ -78,10 +78,8 @@ pub fn survey_rows<'a>(
     ensures rows { take n result ≡ listed n (number_row readable lengths.now epochs.now) }
 {
     let mut rows = no_rows();
-    let mut c: usize = 0;
-    while c < n {
+    for c in 0..n {
         rows[c] = replica_row(readable, lengths, epochs, c);
-        c += 1;
     }
     rows
 }
@@ -99,9 +97,7 @@ pub fn fill_rows(rows: &mut [ReplicaRow], found: PlanOutcome, count: usize)
     requires { (length found.rows ≡ 7) × (count ≤ 7) × (count ≤ length rows.old) }
     ensures { rows.new ≡ front_rows count found.rows rows.old }
 {
-    let mut c: usize = 0;
-    while c < count {
+    for c in 0..count {
         rows[c] = outcome_row(found, c);
-        c += 1;
     }
 }
