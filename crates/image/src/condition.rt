@@ -56,7 +56,7 @@ impl Slot {
     };
 }
 
-// The conditions by number, as the planner's tables have them.
+// The conditions by number, as the planner's tables still have them.
 pub const UNUSED: u8 = 0;
 
 pub const WHOLE: u8 = 1;

@@ -29,7 +29,7 @@ pub enum Refusal {
     Witnesses = 22,
 }
 
-// The same by number, as the planner's code has them; 0 is none.
+// Some of them by number, as the planner's code still has them; 0 is none.
 pub const NONE: u8 = 0;
 
 pub const SLOT_COUNT: u8 = 1;
@@ -38,20 +38,6 @@ pub const REPLICA_COUNT: u8 = 2;
 
 pub const BUFFER_LENGTH: u8 = 3;
 
-pub const HEADER: u8 = 4;
-
-pub const USED_AFTER_BLANK: u8 = 5;
-
-pub const BOTH_LOST: u8 = 6;
-
-pub const EPOCH_FALLS: u8 = 7;
-
-pub const APPEND_EPOCH: u8 = 8;
-
-pub const APPEND_PAYLOAD: u8 = 9;
-
-pub const APPEND_FULL: u8 = 10;
-
 pub const PRESENT: u8 = 11;
 
 pub const LEADER: u8 = 12;
@@ -59,8 +45,6 @@ pub const LEADER: u8 = 12;
 pub const LENT_LENGTH: u8 = 13;
 
 pub const COMMAND_LINE: u8 = 14;
-
-pub const FIRST_INDEX: u8 = 20;
 
 pub const FIRST_DIFFERS: u8 = 21;
 
