@@ -60,6 +60,12 @@ chunk_end_b s x y i h = rw (drop_of_length-le s h) refl
 
 -- ---- chunk after chunk
 
+pub chunks_start_a : (s : List ℕ) (a : ℕ) → a ≡ 1 → sum_a a (drop 0 s) ≡ sum_a 1 s
+chunks_start_a s a p = rw p refl
+
+pub chunks_start_b : (s : List ℕ) (a b : ℕ) → a ≡ 1 → b ≡ 0 → sum_b a b (drop 0 s) ≡ sum_b 1 0 s
+chunks_start_b s a b p q = rw (p, q) refl
+
 pub sum_a_append : (a : ℕ) (xs ys : List ℕ) → sum_a a (xs ++ ys) ≡ sum_a (sum_a a xs) ys
 unfolding sum_a
 sum_a_append a [] ys = refl
@@ -79,6 +85,14 @@ pub sum_b_none : (a b : ℕ) (xs : List ℕ) → length xs ≡ 0 → sum_b a b x
 unfolding sum_b
 sum_b_none a b [] h = refl
 sum_b_none a b (x ∷ xs) h = absurd (omega arith)
+
+pub chunks_end_a : (s : List ℕ) (a i : ℕ) → length s ≤ i → sum_a a (drop i s) ≡ sum_a 1 s → a ≡ sum_a 1 s
+unfolding sum_a
+chunks_end_a s a i h p = rw (drop_of_length-le s h) at p
+
+pub chunks_end_b : (s : List ℕ) (a b i : ℕ) → length s ≤ i → sum_b a b (drop i s) ≡ sum_b 1 0 s → b ≡ sum_b 1 0 s
+unfolding sum_b
+chunks_end_b s a b i h p = rw (drop_of_length-le s h) at p
 
 -- ---- the sums of all bytes, from u and v on
 

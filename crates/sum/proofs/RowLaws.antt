@@ -3,8 +3,8 @@ use Prim.Native.Nat.{ℕ, suc, ◌+◌, ◌*◌, ◌%◌, ◌-◌, ◌<◌, ◌�
 use mathlib.Core.Path.{◌≡◌, refl, sym, ◌∙◌, ap, ap₂}
 use mathlib.Core.List.{List, [], ◌∷◌, ◌++◌}
 use native.Mathlib.Omega.{arith}
-use lib.ListN.{length, take, drop, get_or, drop_of_length-le, take-append-drop}
-use lib.Seq.{drop-cons}
+use lib.ListN.{length, take, drop, get_or, length-drop, drop_of_length-le, take-append-drop}
+use lib.Seq.{drop-cons, take_all}
 use Rattle.std.proofs.lemmas.List.{length-take-le}
 use Rattle.checksum.specs.Checksum.{sum_a, sum_b}
 use Rattle.checksum.proofs.SumLaws.{plain_a, plain_b, reduced_a, reduced_b}
@@ -99,3 +99,7 @@ rows_again s rest more r a b x y short front back left most known =
           sym (ap (sum_b (total_of x % 65535) ((b + (8 * total_of y - weighted_of x)) % 65535)) (sym parts) ∙ step_b r more x y b eight known.weighted_most)
           ∙ known.second;
     }
+
+-- a slice from a place on, as a callee's contract has it
+rest : (s : List ℕ) (i : ℕ) → take (length s - i) (drop i s) ≡ drop i s
+rest s i = take_all (length s - i) (drop i s) (rw (length-drop i s) (omega arith))
