@@ -77,9 +77,12 @@ pub fn slot_at(image: &[u8], shape: Shape, replica: usize, first: u32, k: usize)
     ensures { SlotIs ((decode_under shape replica first image.now).records k)
         ((decode_under shape replica first image.now).entries k) result }
 {
-    match record_state(image, shape, first, k) {
-        RecordState::Good(epoch) => good_slot(epoch, entry_of(image, shape, replica, first, k)),
-        RecordState::Blank => Slot::UNUSED,
-        RecordState::Bad => bad_slot(entry_of(image, shape, replica, first, k)),
-    }
+    let record = record_state(image, shape, first, k);
+    let RecordState::Good(epoch) = record else {
+        if let RecordState::Blank = record {
+            return Slot::UNUSED;
+        }
+        return bad_slot(entry_of(image, shape, replica, first, k));
+    };
+    good_slot(epoch, entry_of(image, shape, replica, first, k))
 }
