@@ -2,11 +2,11 @@
 // A survey's numbers are lent: slot k of replica c stands at c * MAX_SLOTS + k. Replicas and slots count from 0 here.
 #![tactic(auto)]
 
-ghost use Rattle.std.specs.Prelude.{◌+◌, ◌<◌, ◌≤◌, ◌≡◌, ℕ, IfSome, MatchOption, true, false, cond, eqb, get_or};
+ghost use Rattle.std.specs.Prelude.{◌+◌, ◌<◌, ◌≤◌, ◌≡◌, IfSome, MatchOption, cond, eqb, get_or};
 ghost use Rattle.search.specs.Search.{listed, lowest};
-ghost use Rattle.planner.specs.Rules.{end, have, is_truncate, rule};
+ghost use Rattle.planner.specs.Rules.{end};
 ghost use Rattle.planner.specs.Plan.{kept_byte};
-ghost use Rattle.planner.specs.Survey.{condition_from, survey_setting, survey_views, Walked, marked_byte, slot_byte};
+ghost use Rattle.planner.specs.Survey.{condition_from, survey_setting, survey_views, Walked, marked_byte};
 
 use decide_answers::{has_slot, may_truncate};
 use image::{MAX_SLOTS, condition};

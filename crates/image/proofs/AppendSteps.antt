@@ -27,7 +27,7 @@ use Rattle.image.specs.declared.condition.Slot.{Slot}
 use Rattle.image.specs.Seen.{slot_of, slot_in, Seen}
 use Rattle.image.specs.Append.{last_epoch, format_refusal, append_refusal, stored, appended, formatted}
 use Rattle.image.specs.Witness.{record_refusal, recorded, record_appended}
-use Rattle.image.specs.Answers.{value, numbered, format_call_numbers}
+use Rattle.image.specs.Answers.{refused, value, numbered, format_call_numbers}
 use Rattle.image.proofs.RefusalLaws.{refuse_off, else_next, else_first}
 use Rattle.image.proofs.CallLaws.{slots_high, called_slots, called_size, formatted_call}
 use Rattle.image.proofs.ReadLaws.{opened_slots, opened_size, opened_card, witnessed_slots, witnessed_size}
@@ -190,7 +190,12 @@ module _ (Z : Shape) (first k : ℕ) (b : Bytes) (km : k < Z.m) (size : entry_at
     unfolding stored
     slot_stored r = rw (r, q, i, place, line)
 
--- ---- appending: what is left
+-- ---- appending: what is answered and left
+
+pub append_refused : (Z : Shape) (c : ℕ) (b : Bytes) (e : ℕ) (p : Bytes) {r : ℕ} → append_refusal Z c b e (length p) ≡ r → ¬ (r ≡ 0)
+    → (refused r ≡ numbered (append_refusal Z c b e (length p)) (suc (log_length Z.m (decode_image Z c b)))) × (b ≡ appended Z c b e p)
+unfolding numbered appended
+append_refused Z c b e p {r} is h = let off = ne_eqb r 0 h in (sym (rw (is, off)), sym (rw (is, off)))
 
 pub append_done : (Z : Shape) (c : ℕ) (b : Bytes) (e : ℕ) (p : Bytes) → append_refusal Z c b e (length p) ≡ 0
     → {first k : ℕ} {d : Bytes} → first ≡ first_index (decode_image Z c b).header → k ≡ log_length Z.m (decode_image Z c b)
@@ -208,6 +213,11 @@ pub slot_recorded : (Z : Shape) (first k : ℕ) (b : Bytes) (e : ℕ) {j : ℕ} 
     → y ≡ recorded Z first b k e
 unfolding recorded
 slot_recorded Z first k b e i line r = rw (r, i, line)
+
+pub record_refused : (Z : Shape) (c : ℕ) (b : Bytes) (e : ℕ) {r : ℕ} → record_refusal Z c b e ≡ r → ¬ (r ≡ 0)
+    → (refused r ≡ numbered (record_refusal Z c b e) (suc (log_length Z.m (decode_image Z c b)))) × (b ≡ record_appended Z c b e)
+unfolding numbered record_appended
+record_refused Z c b e {r} is h = let off = ne_eqb r 0 h in (sym (rw (is, off)), sym (rw (is, off)))
 
 pub record_done : (Z : Shape) (c : ℕ) (b : Bytes) (e : ℕ) → record_refusal Z c b e ≡ 0
     → {first k : ℕ} {d : Bytes} → first ≡ first_index (decode_image Z c b).header → k ≡ log_length Z.m (decode_image Z c b)

@@ -22,6 +22,11 @@ use Rattle.image.specs.Scan.{Scanned, length_in, scan_refusal}
 use Rattle.image.proofs.ScannedLaws.{length_scanned, refusal_scanned}
 use Rattle.image.proofs.DecodeLaws.{first_is}
 
+-- a header's answer that has no first index is none
+pub is_improper : (a : Option ℕ) → ((first : ℕ) → a ≡ Some first → ⊥) → a ≡ None
+is_improper (Some first) h = absurd (h first refl)
+is_improper None h = refl
+
 -- what each answer of the judge says of a header
 answered_improper : (h : Header) {a : Option ℕ} → a ≡ header_answer h → a ≡ None → is_proper h ≡ false
 unfolding header_answer is_proper

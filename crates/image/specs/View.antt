@@ -10,7 +10,7 @@ use Rattle.image.specs.Image.{Image, image_size, decode_image}
 use Rattle.image.specs.declared.condition.Condition.{Condition}
 use Rattle.image.specs.declared.condition.Condition.TheVariants.{Unused, Whole, RecordLost, Faulty, Lost, RecordOnly}
 
--- a condition's number, as plan bytes and verdicts have it
+-- a condition's number: 0 to 2 as plan bytes and verdicts have them
 abbrev pub condition_number : Condition → ℕ
 condition_number Unused = 0
 condition_number Whole = 1

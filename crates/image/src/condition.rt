@@ -3,7 +3,8 @@ ghost use Rattle.std.specs.Prelude.{◌≡◌};
 ghost use Rattle.image.specs.View.{is_unused, is_lost};
 ghost use Rattle.image.specs.Read.{is_whole};
 
-// The condition of a slot: `condition` of specs/View.antt says when it is which. As a number it is that of a plan byte and a verdict.
+// The condition of a slot: `condition` of specs/View.antt says when it is which. 0 to 2 are also a plan byte's
+// numbers and a verdict's.
 #[derive(Clone, Copy, PartialEq, Eq)]
 pub enum Condition {
     Unused = 0,
@@ -64,7 +65,5 @@ pub const WHOLE: u8 = 1;
 pub const RECORD_LOST: u8 = 2;
 
 pub const FAULTY: u8 = 3;
-
-pub const LOST: u8 = 4;
 
 pub const RECORD_ONLY: u8 = 5;

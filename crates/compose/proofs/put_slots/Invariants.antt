@@ -1,4 +1,3 @@
-use Prim.Native.Nat.{◌-◌, ◌≤◌}
 use Rattle.report.proofs.LineLaws as law
 use Rattle.compose.proofs.put_slots.Given as goal
 

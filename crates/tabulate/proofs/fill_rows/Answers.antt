@@ -1,7 +1,6 @@
 use Prim.Native.Nat.{◌<◌}
 use native.Mathlib.Omega.{arith}
 use native.Mathlib.Numerals.{add-one}
-use borrow.Author.Rules.{rules}
 use lib.ListN.{length}
 use Rattle.planner.proofs.FrontLaws.{front_none, front_more}
 use Rattle.tabulate.proofs.fill_rows.Goals as goal

@@ -1,5 +1,4 @@
 -- `fill_rows` fills from the front: the first c rows are those that were found, and the others as they were.
-use Prim.Native.Nat.{◌-◌, ◌≤◌}
 use mathlib.Core.Path.{◌≡◌}
 use Rattle.planner.specs.Tabulated.{front_rows}
 use Rattle.tabulate.proofs.fill_rows.Given as goal

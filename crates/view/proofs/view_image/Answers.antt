@@ -1,7 +1,7 @@
 -- `view_image` judges the header, and then what its scan holds.
 use Prim.Native.Nat.{ℕ, ◌-◌}
-use mathlib.Core.Path.{◌≡◌, sym, ◌∙◌}
-use lib.ListN.{length, take, length-take}
+use mathlib.Core.Path.{◌≡◌, ◌∙◌}
+use lib.ListN.{take, length-take}
 use mathlib.Core.List.{List}
 use Rattle.std.specs.Prelude.{Option}
 use Rattle.record.specs.declared.Shape.{Shape}

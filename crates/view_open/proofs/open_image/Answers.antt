@@ -3,7 +3,6 @@ use Rattle.std.proofs.Common.{rules, sym}
 use Rattle.image.specs.Refusal.{◌else◌}
 use Rattle.image.specs.View.{read_refusal}
 use Rattle.image.proofs.CallLaws.{called_slots, called_size}
-use Rattle.image.proofs.RefusalLaws.{else_next}
 use Rattle.view_open.proofs.open_image.Goals as goal
 
 pub returns-in_err-vet_call-clause-refusal : goal.returns-in_err-vet_call-clause-refusal
