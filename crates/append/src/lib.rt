@@ -3,12 +3,12 @@
 
 ghost use Rattle.std.specs.Prelude.{◌<◌, ◌≤◌, ◌≡◌, ◌||◌, eqb, leb, ltb, length};
 ghost use Rattle.record.specs.Layout.{max_payload};
-ghost use Rattle.image.specs.Refusal.{refuse, ◌else◌};
+ghost use Rattle.image.specs.Refusal.{refusal_of, refuse, ◌else◌};
 ghost use Rattle.image.specs.Image.{entry_at};
 ghost use Rattle.image.specs.Append.{stored, appended};
-ghost use Rattle.image.specs.Answers.{append_numbers, append_call_numbers};
+ghost use Rattle.image.specs.Answers.{numbers, append_call_numbers};
 
-use image::{AppendAnswer, refusal};
+use image::refusal::Refusal;
 use locate::{MAX_PAYLOAD, entry_at, index_of, record_at};
 use record::Shape;
 use view::last_epoch;
@@ -16,22 +16,26 @@ use view_open::open_card;
 use write_at::{put_entry, put_record};
 
 // Refusals 8 to 10 of an append to an image that is not refused. A witness's has no payload, of 0 bytes.
-pub fn append_refusal(last: u32, length: usize, m: usize, epoch: u32, size: usize) -> u8
-    ensures { result ≡ (refuse 8 (eqb epoch 0 || ltb epoch last) else refuse 9 (ltb max_payload size) else refuse 10 (leb m length)) }
+pub fn vet_append(
+    last: u32,
+    length: usize,
+    m: usize,
+    epoch: u32,
+    size: usize,
+) -> Result<(), Refusal>
+    ensures { refusal_of result
+        ≡ (refuse 8 (eqb epoch 0 || ltb epoch last) else refuse 9 (ltb max_payload size) else refuse 10 (leb m length)) }
 {
-    if epoch == 0 {
-        return refusal::APPEND_EPOCH;
-    }
-    if epoch < last {
-        return refusal::APPEND_EPOCH;
+    if epoch == 0 || epoch < last {
+        return Err(Refusal::AppendEpoch);
     }
     if MAX_PAYLOAD < size {
-        return refusal::APPEND_PAYLOAD;
+        return Err(Refusal::AppendPayload);
     }
     if m <= length {
-        return refusal::APPEND_FULL;
+        return Err(Refusal::AppendFull);
     }
-    refusal::NONE
+    Ok(())
 }
 
 // Writes the entry and then the record of slot k, of a log whose first slot has index `first`.
@@ -51,23 +55,14 @@ pub fn append_entry(
     replica: usize,
     epoch: u32,
     payload: &[u8],
-) -> AppendAnswer
-    ensures answer { append_numbers result ≡ append_call_numbers shape replica image.old epoch (length payload.now) }
+) -> Result<usize, Refusal>
+    ensures answer { numbers result ≡ append_call_numbers shape replica image.old epoch (length payload.now) }
     ensures image { image.new ≡ appended shape replica image.old epoch payload.now }
 {
-    let seen = open_card(image, shape, replica);
-    let refusal = seen.refusal;
-    if refusal != 0 {
-        return AppendAnswer::Refused(refusal);
-    }
-    let m = shape.m;
-    let first = seen.first;
+    let seen = open_card(image, shape, replica)?;
     let used = seen.length;
-    let epochs = seen.epochs;
-    let denied = append_refusal(last_epoch(&epochs, 0, used), used, m, epoch, payload.len());
-    if denied != 0 {
-        return AppendAnswer::Refused(denied);
-    }
-    put_slot(image, shape, first, used, epoch, payload);
-    AppendAnswer::Slot(used + 1)
+    let last = last_epoch(&seen.slots, used);
+    vet_append(last, used, shape.m, epoch, payload.len())?;
+    put_slot(image, shape, seen.first, used, epoch, payload);
+    Ok(used + 1)
 }

@@ -4,10 +4,10 @@
 ghost use Rattle.std.specs.Prelude.{◌<◌, ◌≤◌, ◌≡◌, length};
 ghost use Rattle.image.specs.Image.{record_at};
 ghost use Rattle.image.specs.Witness.{recorded, record_appended};
-ghost use Rattle.image.specs.Answers.{append_numbers, record_call_numbers};
+ghost use Rattle.image.specs.Answers.{numbers, record_call_numbers};
 
-use append::append_refusal;
-use image::AppendAnswer;
+use append::vet_append;
+use image::refusal::Refusal;
 use locate::{index_of, record_at};
 use record::Shape;
 use view::last_epoch;
@@ -23,23 +23,19 @@ fn record_slot(image: &mut [u8], shape: Shape, first: u32, k: usize, epoch: u32)
 }
 
 // Appends an epoch to the first unused slot of a witness, and answers its number (document 02, Seven).
-pub fn append_witness(image: &mut [u8], shape: Shape, replica: usize, epoch: u32) -> AppendAnswer
-    ensures answer { append_numbers result ≡ record_call_numbers shape replica image.old epoch }
+pub fn append_witness(
+    image: &mut [u8],
+    shape: Shape,
+    replica: usize,
+    epoch: u32,
+) -> Result<usize, Refusal>
+    ensures answer { numbers result ≡ record_call_numbers shape replica image.old epoch }
     ensures image { image.new ≡ record_appended shape replica image.old epoch }
 {
-    let found = open_witness(image, shape, replica);
-    let unread = found.refusal;
-    if unread != 0 {
-        return AppendAnswer::Refused(unread);
-    }
-    let slots = shape.m;
-    let begins = found.first;
+    let found = open_witness(image, shape, replica)?;
     let length = found.length;
-    let epochs = found.epochs;
-    let refused = append_refusal(last_epoch(&epochs, 0, length), length, slots, epoch, 0);
-    if refused != 0 {
-        return AppendAnswer::Refused(refused);
-    }
-    record_slot(image, shape, begins, length, epoch);
-    AppendAnswer::Slot(length + 1)
+    let last = last_epoch(&found.slots, length);
+    vet_append(last, length, shape.m, epoch, 0)?;
+    record_slot(image, shape, found.first, length, epoch);
+    Ok(length + 1)
 }

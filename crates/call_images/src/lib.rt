@@ -1,18 +1,30 @@
 // The calls about one image: a fresh one of either kind, a card appended to and read, for any lent bytes.
 #![tactic(auto)]
 
+ghost use Rattle.std.specs.Prelude.{◌≡◌};
+ghost use Rattle.image.specs.Refusal.{refusal_number};
 ghost use Rattle.call_images.specs.Images.{FormatCall, AppendCall, ReadCall};
 
-use image::refusal;
+use image::refusal::Refusal;
 use record::Shape;
+
+// The answer of a call that is not refused.
+pub const DONE: u8 = 0;
+
+// A refusal's number, as C has it.
+pub fn refusal_number(refusal: Refusal) -> u8
+    ensures { result ≡ refusal_number refusal }
+{
+    refusal as u8
+}
 
 // Makes a fresh image, of a log that begins at this index, in a buffer of its size.
 pub fn format(image: &mut [u8], shape: Shape, replica: usize, first: u32) -> u8
     ensures { FormatCall image.old image.new shape replica first result }
 {
     match format::format_image(image, shape, replica, first) {
-        image::FormatAnswer::Formatted => refusal::NONE,
-        image::FormatAnswer::Refused(refusal) => refusal,
+        Ok(()) => DONE,
+        Err(unformatted) => refusal_number(unformatted),
     }
 }
 
@@ -28,11 +40,11 @@ pub fn append(
     ensures { AppendCall image.old image.new shape replica epoch payload.now slot.old slot.new result }
 {
     match append::append_entry(image, shape, replica, epoch, payload) {
-        image::AppendAnswer::Slot(written) => {
+        Ok(written) => {
             *slot = written;
-            refusal::NONE
+            DONE
         }
-        image::AppendAnswer::Refused(refusal) => refusal,
+        Err(unwritten) => refusal_number(unwritten),
     }
 }
 
@@ -50,14 +62,11 @@ pub fn read(
     ensures { ReadCall image.now shape replica epochs.old epochs.new verdicts.old verdicts.new used.old used.new first.old first.new result }
 {
     match read::read_image(image, shape, replica, epochs, verdicts) {
-        image::ReadAnswer::Log {
-            length,
-            first: begins,
-        } => {
-            *used = length;
-            *first = begins;
-            refusal::NONE
+        Ok(log) => {
+            *used = log.length;
+            *first = log.first;
+            DONE
         }
-        image::ReadAnswer::Refused(refusal) => refusal,
+        Err(unread) => refusal_number(unread),
     }
 }

@@ -1,7 +1,7 @@
 -- The two ends of every call about a payload: the answer, with what is handed out, or the refusal, and nothing is.
 use Prim.Native.Nat.{ℕ, ◌-◌}
 use mathlib.Core.Path.{◌≡◌, sym, ap, ◌∙◌}
-use mathlib.Core.Bool.{Bool, true, false}
+use mathlib.Core.Bool.{Bool}
 use native.Mathlib.Omega.{arith}
 use lib.ListN.{length}
 use Rattle.slices.specs.Parts.{Bytes, part}
@@ -20,17 +20,13 @@ pub has_at : (Z : Shape) (c : ℕ) (b : Bytes) (s x : ℕ) {y : Numbered Bool} �
 has_at Z c b s x h e = rw e at h
 
 module _ (refusal : ℕ) (has : Bool) (old : ℕ) where
-  pub has_present : value true ≡ numbered refusal has → {out : ℕ} → out ≡ 1 → (0 ≡ refusal) × (out ≡ unless_refused 0 (flag has) old)
-  unfolding unless_refused flag
-  has_present h o = let a = answered refusal has true h in (a.0, o ∙ ap flag a.1)
-
-  pub has_absent : value false ≡ numbered refusal has → {out : ℕ} → out ≡ 0 → (0 ≡ refusal) × (out ≡ unless_refused 0 (flag has) old)
-  unfolding unless_refused flag
-  has_absent h o = let a = answered refusal has false h in (a.0, o ∙ ap flag a.1)
-
-  pub has_refused : (x : ℕ) → refused x ≡ numbered refusal has → (x ≡ refusal) × (old ≡ unless_refused x (flag has) old)
+  pub has_found : (found : Bool) → value found ≡ numbered refusal has → {out : ℕ} → out ≡ flag found → (0 ≡ refusal) × (out ≡ unless_refused 0 (flag has) old)
   unfolding unless_refused
-  has_refused x h = let a = denied refusal has x h in (a.0, rw a.1)
+  has_found found h o = let a = answered refusal has found h in (a.0, o ∙ ap flag a.1)
+
+  pub has_refused : (x : ℕ) → refused x ≡ numbered refusal has → {r : ℕ} → r ≡ x → (r ≡ refusal) × (old ≡ unless_refused r (flag has) old)
+  unfolding unless_refused
+  has_refused x h e = let a = denied refusal has x h in (e ∙ a.0, rw (e, a.1))
 
 -- ---- where it stands
 

@@ -3,7 +3,7 @@
 
 ghost use Rattle.call_payloads.specs.Payloads.{HasPayloadCall, PayloadCall};
 
-use image::refusal;
+use call_images::{DONE, refusal_number};
 use record::Shape;
 
 // Hands out 1 if a slot has a payload, and 0 if not.
@@ -11,15 +11,11 @@ pub fn has_payload(image: &[u8], shape: Shape, replica: usize, slot: usize, has:
     ensures { HasPayloadCall image.now shape replica slot has.old has.new result }
 {
     match read_payload::has_payload(image, shape, replica, slot) {
-        image::PayloadAnswer::Present => {
-            *has = 1;
-            refusal::NONE
+        Ok(found) => {
+            *has = u8::from(found);
+            DONE
         }
-        image::PayloadAnswer::Absent => {
-            *has = 0;
-            refusal::NONE
-        }
-        image::PayloadAnswer::Refused(refusal) => refusal,
+        Err(refusal) => refusal_number(refusal),
     }
 }
 
@@ -36,8 +32,6 @@ pub fn payload(
     ensures { PayloadCall image.now shape replica slot at.new size.new }
 {
     let span = read_payload::payload_span(image, shape, replica, slot);
-    let start = span.start;
-    let end = span.end;
-    *at = start;
-    *size = end - start;
+    *at = span.start;
+    *size = span.len();
 }

@@ -1,9 +1,10 @@
--- The two ends of every call about a column or a header: it is refused and leaves what it was lent, or it is answered. r and x are what the code
--- answers and passes on.
+-- The two ends of every call about a column or a header: it is refused and leaves what it was lent, or it is answered. The calls' proofs find
+-- them alone. r and x are what the code answers and passes on.
 use Prim.Native.Nat.{ℕ, ◌≤◌, ◌<◌}
 use mathlib.Core.Path.{◌≡◌, sym, ap, ◌∙◌}
 use lib.ListN.{length}
 use borrow.Author.Tests.{eq-eqb, ne_eqb, le-leb, lt-leb}
+use Rattle.std.specs.Prelude.{Option}
 use Rattle.slices.specs.Parts.{Bytes}
 use Rattle.column.specs.ColumnState.{column_state}
 use Rattle.column.specs.declared.ColumnState.{ColumnState}
@@ -11,7 +12,6 @@ use Rattle.record.specs.Layout.{header_size, header_bytes}
 use Rattle.record.specs.Meaning.{read_header}
 use Rattle.record.specs.Judged.{header_answer}
 use Rattle.record.specs.declared.Shape.{Shape}
-use Rattle.record.specs.declared.HeaderState.{HeaderState}
 use Rattle.image.specs.Refusal.{unless_refused}
 use Rattle.call_pieces.specs.Pieces.{size_refusal, header_state_code, header_state_out, header_code, header_out, column_state_code, column_state_out, column_code, column_out}
 
@@ -31,10 +31,10 @@ pub header_done : (Z : Shape) (c first x : ℕ) (b after : Bytes) (r : ℕ) {siz
 header_done Z c first x b after r q s h e f = write_done (header_size Z) b (header_bytes Z c first) after r q (h ∙ s) (e ∙ ap (header_bytes Z c) f)
 
 pub header_judged :
-    (Z : Shape) (c : ℕ) (b : Bytes) (old : ℕ) (x : HeaderState) → x ≡ header_answer (read_header Z c b) →
+    (Z : Shape) (c : ℕ) (b : Bytes) (old : ℕ) (x : Option ℕ) → x ≡ header_answer (read_header Z c b) →
     (code out : ℕ) → code ≡ header_state_code x → out ≡ header_state_out x old → (code ≡ header_code Z c b) × (out ≡ header_out Z c b old)
 unfolding header_code header_out
-header_judged Z c b old x e code out k o = (k ∙ ap header_state_code e, o ∙ ap (λ (y : HeaderState). header_state_out y old) e)
+header_judged Z c b old x e code out k o = (k ∙ ap header_state_code e, o ∙ ap (λ (y : Option ℕ). header_state_out y old) e)
 
 pub column_too_wide : (b : Bytes) (old r : ℕ) → r ≡ 3 → 19 < length b → (r ≡ column_code b) × (old ≡ column_out b old)
 unfolding column_code column_out

@@ -1,6 +1,6 @@
 -- The calls about columns and headers: what they answer and leave in what they were lent, for any bytes, and each as one contract, which the
 -- call cites and its export says in full. An answer is a code; a number that is handed out with it keeps its old value where there is nothing to hand out.
-use Rattle.std.specs.Prelude.{ℕ, ◌≡◌, cond, eqb, leb, length}
+use Rattle.std.specs.Prelude.{ℕ, ◌≡◌, cond, eqb, leb, length, Option, Some, None}
 use Rattle.slices.specs.Parts.{Bytes}
 use Rattle.checksum.specs.Checksum.{checksum_of}
 use Rattle.column.specs.Column.{column}
@@ -11,8 +11,6 @@ use Rattle.record.specs.Layout.{header_size, header_bytes}
 use Rattle.record.specs.Meaning.{read_header}
 use Rattle.record.specs.Judged.{header_answer}
 use Rattle.record.specs.declared.Shape.{Shape}
-use Rattle.record.specs.declared.HeaderState.{HeaderState}
-use Rattle.record.specs.declared.HeaderState.TheVariants as header-state
 use Rattle.image.specs.Refusal.{unless_refused}
 
 -- document 01's refusal 3, for a piece that is not `size` bytes long
@@ -20,14 +18,14 @@ unfoldable pub size_refusal : ℕ → Bytes → ℕ
 size_refusal size b = cond (eqb (length b) size) 0 3
 
 -- 0 if the header is the writer's, else 1
-abbrev pub header_state_code : HeaderState → ℕ
-header_state_code (header-state.Proper first) = 0
-header_state_code header-state.Improper = 1
+abbrev pub header_state_code : Option ℕ → ℕ
+header_state_code (Some first) = 0
+header_state_code None = 1
 
 -- the first index that the writer's header gives
-abbrev pub header_state_out : HeaderState → ℕ → ℕ
-header_state_out (header-state.Proper first) old = first
-header_state_out header-state.Improper old = old
+abbrev pub header_state_out : Option ℕ → ℕ → ℕ
+header_state_out (Some first) old = first
+header_state_out None old = old
 
 unfoldable pub header_code : Shape → ℕ → Bytes → ℕ
 header_code Z c b = header_state_code (header_answer (read_header Z c b))

@@ -1,2 +1,2 @@
--- Laws that the proofs of the functions cite.
+-- Laws of the calls.
 pub mod RecordCallLaws

@@ -1,15 +1,16 @@
--- The two ends of every call about a record or an entry: it is refused and leaves what it was lent, or it is answered. r, e and k are what the
--- code answers and passes on.
+-- The two ends of every call about a record or an entry: it is refused and leaves what it was lent, or it is answered. The calls' proofs find
+-- them alone. r, e and k are what the code answers and passes on.
 use Prim.Native.Nat.{ℕ, ◌≤◌, ◌<◌}
 use mathlib.Core.Path.{◌≡◌, ap, ◌∙◌}
 use lib.ListN.{length}
 use borrow.Author.Tests.{eq-eqb, ne_eqb, le-leb, lt-leb}
+use Rattle.std.specs.Prelude.{Option}
 use Rattle.slices.specs.Parts.{Bytes}
 use Rattle.record.specs.Layout.{record_bytes, entry_bytes}
 use Rattle.record.specs.Meaning.{read_record, read_entry}
 use Rattle.record.specs.Judged.{record_answer, entry_answer}
 use Rattle.record.specs.declared.RecordState.{RecordState}
-use Rattle.record.specs.declared.EntryState.{EntryState}
+use Rattle.record.specs.declared.Intact.{Intact}
 use Rattle.image.specs.Refusal.{unless_refused}
 use Rattle.call_pieces.specs.Pieces.{size_refusal}
 use Rattle.call_pieces.proofs.PieceLaws.{write_done}
@@ -47,7 +48,7 @@ unfolding entry_code entry_epoch_out entry_size_out
 judge_wrong_size k b epoch size r q h = (q ∙ simp (ne_eqb _ _ h), simp (ne_eqb _ _ h), simp (ne_eqb _ _ h))
 
 pub entry_judged :
-    (k : ℕ) (b : Bytes) (epoch size : ℕ) (x : EntryState) → length b ≡ 240 → x ≡ entry_answer (read_entry k b) →
+    (k : ℕ) (b : Bytes) (epoch size : ℕ) (x : Option Intact) → length b ≡ 240 → x ≡ entry_answer (read_entry k b) →
     (code e s : ℕ) → code ≡ entry_state_code x → e ≡ entry_state_epoch_out x epoch → s ≡ entry_state_size_out x size →
     (code ≡ entry_code k b) × (e ≡ entry_epoch_out k b epoch) × (s ≡ entry_size_out k b size)
 unfolding entry_code entry_epoch_out entry_size_out

@@ -1,14 +1,13 @@
 -- The calls about records and entries: what they answer and leave in what they were lent, for any bytes, and each as one contract, which the
 -- call cites and its export says in full, as in `call_pieces`.
-use Rattle.std.specs.Prelude.{ℕ, ◌≡◌, cond, eqb, leb, length}
+use Rattle.std.specs.Prelude.{ℕ, ◌≡◌, cond, eqb, leb, length, Option, Some, None}
 use Rattle.slices.specs.Parts.{Bytes}
 use Rattle.record.specs.Layout.{record_size, entry_size, max_payload, record_bytes, blank_record, entry_bytes, fresh_entry}
 use Rattle.record.specs.Meaning.{read_record, read_entry}
 use Rattle.record.specs.Judged.{record_answer, entry_answer}
 use Rattle.record.specs.declared.RecordState.{RecordState}
 use Rattle.record.specs.declared.RecordState.TheVariants as record-state
-use Rattle.record.specs.declared.EntryState.{EntryState}
-use Rattle.record.specs.declared.EntryState.TheVariants as entry-state
+use Rattle.record.specs.declared.Intact.{Intact}
 use Rattle.image.specs.Refusal.{unless_refused}
 use Rattle.call_pieces.specs.Pieces.{size_refusal}
 
@@ -35,17 +34,17 @@ unfoldable pub record_out : ℕ → Bytes → ℕ → ℕ
 record_out k b old = cond (eqb (length b) record_size) (record_state_out (record_answer (read_record k b)) old) old
 
 -- an entry's state by code, and its epoch and its payload's length if it is intact
-abbrev pub entry_state_code : EntryState → ℕ
-entry_state_code (entry-state.Intact e size) = 0
-entry_state_code entry-state.Broken = 1
+abbrev pub entry_state_code : Option Intact → ℕ
+entry_state_code (Some found) = 0
+entry_state_code None = 1
 
-abbrev pub entry_state_epoch_out : EntryState → ℕ → ℕ
-entry_state_epoch_out (entry-state.Intact e size) old = e
-entry_state_epoch_out entry-state.Broken old = old
+abbrev pub entry_state_epoch_out : Option Intact → ℕ → ℕ
+entry_state_epoch_out (Some found) old = found.epoch
+entry_state_epoch_out None old = old
 
-abbrev pub entry_state_size_out : EntryState → ℕ → ℕ
-entry_state_size_out (entry-state.Intact e size) old = size
-entry_state_size_out entry-state.Broken old = old
+abbrev pub entry_state_size_out : Option Intact → ℕ → ℕ
+entry_state_size_out (Some found) old = found.size
+entry_state_size_out None old = old
 
 -- 3 if the bytes are not as many as an entry's
 unfoldable pub entry_code : ℕ → Bytes → ℕ

@@ -1,9 +1,10 @@
 -- The calls that say sizes and offsets: each as one contract, which the call and its export cite. It takes what the call takes, and then the
 -- answer.
-use Rattle.std.specs.Prelude.{ℕ, ◌-◌, ◌≡◌, not, ◌&&◌, leb}
+use Rattle.std.specs.Prelude.{ℕ, ◌-◌, ◌≡◌, not, ◌&&◌, leb, Result, Ok, Err, IfOk}
 use Rattle.record.specs.declared.Shape.{Shape}
 use Rattle.record.specs.Layout.{is_witness}
-use Rattle.image.specs.Refusal.{refuse, ◌else◌, unless_refused}
+use Rattle.image.specs.declared.refusal.Refusal.{Refusal}
+use Rattle.image.specs.Refusal.{refuse, ◌else◌, refusal_of, unless_refused}
 use Rattle.image.specs.Image.{image_size, record_at, entry_at}
 use Rattle.image.specs.View.{named_refusal}
 use Rattle.image.specs.Cluster.{image_at}
@@ -12,6 +13,15 @@ use Rattle.call_sizes.specs.declared.Measure.{Measure}
 -- a slot by its number, from 1, is not 1 to m: 1, as 2 is for a replica that is not 1 to n
 unfoldable pub slot_refusal : Shape → ℕ → ℕ → ℕ
 slot_refusal Z c k = refuse 1 (not (leb 1 k && leb k Z.m)) else named_refusal Z c
+
+-- the bytes that were found, 0 if there are none
+abbrev pub bytes_of : Result ℕ Refusal → ℕ
+bytes_of (Ok bytes) = bytes
+bytes_of (Err refusal) = 0
+
+-- of what has this refusal: so many bytes if it has none
+abbrev pub Found : ℕ → ℕ → Result ℕ Refusal → Type 0
+Found refusal bytes r = (refusal_of r ≡ refusal) × IfOk r (λ n. n ≡ bytes)
 
 -- of a call with this refusal: so many bytes, and 0 if it is refused
 abbrev pub Measured : ℕ → ℕ → Measure → Type 0

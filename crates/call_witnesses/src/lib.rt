@@ -3,7 +3,7 @@
 
 ghost use Rattle.call_witnesses.specs.Witnesses.{WitnessAppendCall, WitnessReadCall};
 
-use image::refusal;
+use call_images::{DONE, refusal_number};
 use record::Shape;
 
 // Appends an epoch to the first unused slot, whose number it hands out.
@@ -17,11 +17,11 @@ pub fn witness_append(
     ensures { WitnessAppendCall image.old image.new shape replica epoch slot.old slot.new result }
 {
     match append_witness::append_witness(image, shape, replica, epoch) {
-        image::AppendAnswer::Slot(written) => {
+        Ok(written) => {
             *slot = written;
-            refusal::NONE
+            DONE
         }
-        image::AppendAnswer::Refused(refusal) => refusal,
+        Err(unwritten) => refusal_number(unwritten),
     }
 }
 
@@ -37,14 +37,11 @@ pub fn witness_read(
     ensures { WitnessReadCall image.now shape replica epochs.old epochs.new used.old used.new first.old first.new result }
 {
     match read_witness::read_witness(image, shape, replica, epochs) {
-        image::ReadAnswer::Log {
-            length,
-            first: begins,
-        } => {
-            *used = length;
-            *first = begins;
-            refusal::NONE
+        Ok(log) => {
+            *used = log.length;
+            *first = log.first;
+            DONE
         }
-        image::ReadAnswer::Refused(refusal) => refusal,
+        Err(unread) => refusal_number(unread),
     }
 }

@@ -1,33 +1,21 @@
 -- One step, and the end, of each loop of this crate.
-use Prim.Native.Nat.{ℕ, zero, suc, ◌+◌, ◌*◌, ◌-◌, ◌/◌, ◌%◌, ◌^◌, ◌<◌, ◌≤◌}
+use Prim.Native.Nat.{ℕ, zero, suc, ◌+◌, ◌/◌, ◌^◌, ◌<◌, ◌≤◌}
 use mathlib.Core.Path.{◌≡◌, refl, sym, ◌∙◌, ap, ap₂}
 use mathlib.Core.Bool.{Bool, true, false}
 use mathlib.Core.List.{[], ◌∷◌, ◌++◌, append_assoc}
 use native.Mathlib.Omega.{arith}
 use native.Mathlib.Numerals.{add-one}
 use native.Mathlib.Nat.{pow-le-pow_right}
-use lib.ListN.{length, take, drop, get_or, set, length-set, drop_of_length-le}
-use lib.Seq.{drop-cons, get_or-set_same, drop-set-lt, take-suc, take_all, length-take-le}
+use lib.ListN.{length, drop, get_or, set, length-append, length-set, drop_of_length-le}
+use lib.Seq.{drop-cons, get_or-set_same, drop-set-lt}
 use lib.Dec.{eqb}
-use borrow.Author.Tests.{eq-eqb, ne_eqb, le-leb, lt-leb}
+use borrow.Author.Tests.{eq-eqb, ne_eqb}
 use Rattle.slices.specs.Parts.{Bytes}
 use Rattle.slices.specs.Same.{same}
 use Rattle.slices.proofs.SameLaws.{and_off, same_append, same_eq, and_on}
 use Rattle.column.specs.Column.{digits, column, digit_step, value_from}
 use Rattle.column.specs.Digit.{last_byte, high_byte}
 use Rattle.column.proofs.ColumnLaws.{digits_suc, column_suc, length_digits}
-
-pub last_digit : (x : ℕ) → 48 + x % 10 ≡ last_byte x
-unfolding last_byte
-last_digit x = refl
-
-pub high_none : (x : ℕ) → x ≡ 0 → 32 ≡ high_byte x
-unfolding high_byte
-high_none x h = rw (eq-eqb _ _ h) refl
-
-pub high_last : (x : ℕ) → (x ≡ 0 → ⊥) → last_byte x ≡ high_byte x
-unfolding last_byte high_byte
-high_last x h = rw (ne_eqb _ _ h) refl
 
 -- an empty column
 pub column_none : (s : Bytes) (x : ℕ) → length s ≡ 0 → s ≡ column (length s) x
@@ -42,20 +30,22 @@ drop_stored : (s : Bytes) (j b : ℕ) → j < length s → drop j (set s j b) �
 drop_stored s j b h =
     drop-cons (set s j b) j 0 (simp length-set (omega arith)) ∙ rw (get_or-set_same s j b 0 h, drop-set-lt (suc j) s j b (omega arith)) refl
 
-pub write_start : (s : Bytes) (x j b : ℕ) → length s ≡ suc j → b ≡ last_byte x
-    → digits j (x / 10) ++ drop j (set s j b) ≡ column (length (set s j b)) x
-write_start s x j b h e =
-    let n : length s ≤ suc j = omega arith in
-    rw (length-set, drop_stored s j b (omega arith), drop_of_length-le s n, h, column_suc, e) refl
-
 pub write_step : (s : Bytes) (i j rest b : ℕ) → i ≡ suc j → i ≤ length s → b ≡ high_byte rest
     → digits j (rest / 10) ++ drop j (set s j b) ≡ digits i rest ++ drop i s
 write_step s i j rest b n h e = rw (drop_stored s j b (omega arith), n, digits_suc, append_assoc, e) refl
 
-pub write_end : (s old : Bytes) (j b i rest x : ℕ) → i ≤ 0 → digits i rest ++ drop i s ≡ column (length (set old j b)) x → s ≡ column (length old) x
+-- what stands before the last byte, and that byte
+pub write_end :
+    (s old front : Bytes) (a b i rest x : ℕ) →
+    s ≡ old ++ (a ∷ []) →
+    i ≤ 0 →
+    digits i rest ++ drop i front ≡ digits (length old) (x / 10) →
+    b ≡ last_byte x →
+    front ++ (b ∷ []) ≡ column (length s) x
 unfolding digits
-write_end s old j b zero rest x h e = e ∙ ap (λ (n : ℕ). column n x) (length-set old j b)
-write_end s old j b (suc i) rest x h e = absurd (omega arith)
+write_end s old front a b zero rest x parts h e k =
+    rw (ap length parts, length-append, add-one, column_suc, e, k) refl
+write_end s old front a b (suc i) rest x parts h e k = absurd (omega arith)
 
 -- ---- compared from the right
 
@@ -74,53 +64,44 @@ same_snoc xs ys x y h e = same_append xs (x ∷ []) ys (y ∷ []) h ∙ rw (same
 same_snoc_off : (xs ys : Bytes) (x y : ℕ) → length xs ≡ length ys → (x ≡ y → ⊥) → same (xs ++ (x ∷ [])) (ys ++ (y ∷ [])) ≡ false
 same_snoc_off xs ys x y h e = same_append xs (x ∷ []) ys (y ∷ []) h ∙ rw (same_one x y false (ne_eqb x y e)) (and_off (same xs ys))
 
-module _ (s : Bytes) (i j rest b : ℕ) (n : i ≡ suc j) (h : i ≤ length s) (e : b ≡ high_byte rest) where
-  step_split : same (take i s) (digits i rest) ≡ same (take j s ++ (get_or s j 0 ∷ [])) (digits j (rest / 10) ++ (high_byte rest ∷ []))
-  step_split = let k : j < length s = omega arith in rw (n, take-suc s j 0 k, digits_suc) refl
+-- what stands before the last byte, and that byte
+module _ (s front : Bytes) (b : ℕ) (parts : s ≡ front ++ (b ∷ [])) where
+  length_parts : length s ≡ suc (length front)
+  length_parts = ap length parts ∙ simp length-append (add-one (length front))
 
-  as_long : length (take j s) ≡ length (digits j (rest / 10))
-  as_long = length-take-le j s (omega arith) ∙ sym (length_digits j (rest / 10))
+  as_long : (x : ℕ) → length front ≡ length (digits (length front) x)
+  as_long x = sym (length_digits (length front) x)
 
-  pub holds_step : get_or s j 0 ≡ b → same (take j s) (digits j (rest / 10)) ≡ same (take i s) (digits i rest)
-  holds_step k = sym (step_split ∙ same_snoc (take j s) (digits j (rest / 10)) (get_or s j 0) (high_byte rest) as_long (k ∙ e))
+  module _ (rest c : ℕ) (e : c ≡ high_byte rest) where
+    high_split : same s (digits (length s) rest) ≡ same (front ++ (b ∷ [])) (digits (length front) (rest / 10) ++ (high_byte rest ∷ []))
+    high_split = ap₂ same parts (ap (λ (n : ℕ). digits n rest) length_parts ∙ digits_suc (length front) rest)
 
-  pub holds_off : (get_or s j 0 ≡ b → ⊥) → false ≡ same (take i s) (digits i rest)
-  holds_off k = sym (step_split ∙ same_snoc_off (take j s) (digits j (rest / 10)) (get_or s j 0) (high_byte rest) as_long (λ q. k (q ∙ sym e)))
+    pub holds_step : b ≡ c → same front (digits (length front) (rest / 10)) ≡ same s (digits (length s) rest)
+    holds_step k =
+        sym (high_split ∙ same_snoc front (digits (length front) (rest / 10)) b (high_byte rest) (as_long (rest / 10)) (k ∙ e))
 
-module _ (s : Bytes) (x j b : ℕ) (h : length s ≡ suc j) (e : b ≡ last_byte x) where
-  split : same s (column (length s) x) ≡ same (take j s ++ (get_or s j 0 ∷ [])) (digits j (x / 10) ++ (last_byte x ∷ []))
-  split =
-      let whole : s ≡ take j s ++ (get_or s j 0 ∷ []) = sym (take_all (suc j) s (omega arith)) ∙ take-suc s j 0 (omega arith) in
-      ap₂ same whole (ap (λ (n : ℕ). column n x) h ∙ column_suc j x)
+    pub holds_off : (b ≡ c → ⊥) → false ≡ same s (digits (length s) rest)
+    holds_off k =
+        sym (high_split ∙ same_snoc_off front (digits (length front) (rest / 10)) b (high_byte rest) (as_long (rest / 10)) (λ q. k (q ∙ sym e)))
 
-  last_as_long : length (take j s) ≡ length (digits j (x / 10))
-  last_as_long = length-take-le j s (omega arith) ∙ sym (length_digits j (x / 10))
+  module _ (x c : ℕ) (e : c ≡ last_byte x) where
+    last_split : same s (column (length s) x) ≡ same (front ++ (b ∷ [])) (digits (length front) (x / 10) ++ (last_byte x ∷ []))
+    last_split = ap₂ same parts (ap (λ (n : ℕ). column n x) length_parts ∙ column_suc (length front) x)
 
-  pub holds_start : get_or s j 0 ≡ b → same (take j s) (digits j (x / 10)) ≡ same s (column (length s) x)
-  holds_start k = sym (split ∙ same_snoc (take j s) (digits j (x / 10)) (get_or s j 0) (last_byte x) last_as_long (k ∙ e))
+    pub holds_start : b ≡ c → same front (digits (length front) (x / 10)) ≡ same s (column (length s) x)
+    holds_start k =
+        sym (last_split ∙ same_snoc front (digits (length front) (x / 10)) b (last_byte x) (as_long (x / 10)) (k ∙ e))
 
-  pub holds_last_off : (get_or s j 0 ≡ b → ⊥) → false ≡ same s (column (length s) x)
-  holds_last_off k = sym (split ∙ same_snoc_off (take j s) (digits j (x / 10)) (get_or s j 0) (last_byte x) last_as_long (λ q. k (q ∙ sym e)))
+    pub holds_last_off : (b ≡ c → ⊥) → false ≡ same s (column (length s) x)
+    holds_last_off k =
+        sym (last_split ∙ same_snoc_off front (digits (length front) (x / 10)) b (last_byte x) (as_long (x / 10)) (λ q. k (q ∙ sym e)))
 
-pub holds_end : (s : Bytes) (i x : ℕ) → i ≤ 0 → true ≡ same (take i s) (digits i x)
+pub holds_end : (s : Bytes) (x : ℕ) → length s ≡ 0 → true ≡ same s (digits (length s) x)
 unfolding digits same
-holds_end s zero x h = refl
-holds_end s (suc i) x h = absurd (omega arith)
+holds_end [] x h = refl
+holds_end (b ∷ s) x h = absurd (omega arith)
 
 -- ---- read from the left
-
-module _ (v b : ℕ) where
-  pub step_low : b < 48 → v ≡ digit_step v b
-  unfolding digit_step
-  step_low h = rw (lt-leb 48 b h) refl
-
-  pub step_over : 57 < b → v ≡ digit_step v b
-  unfolding digit_step
-  step_over h = rw (lt-leb b 57 h, and_off) refl
-
-  pub step_digit : 48 ≤ b → b ≤ 57 → v * 10 + (b - 48) ≡ digit_step v b
-  unfolding digit_step
-  step_digit h k = rw (le-leb 48 b h, le-leb b 57 k) refl
 
 pub value_step : (s : Bytes) (v i : ℕ) → i < length s → value_from v (drop i s) ≡ value_from (digit_step v (get_or s i 0)) (drop (i + 1) s)
 unfolding value_from

@@ -84,11 +84,7 @@ pub fn put_slots(
     ensures { take (17 + 20 * count) out.new
         ≡ take 17 out.old ++ joined count (line_from epochs.now from plan.now) }
 {
-    let mut k: usize = 0;
-    while k < count {
-        let epoch = epochs[from + k];
-        let byte = plan[k];
-        put_slot(out, k, epoch, byte);
-        k += 1;
+    for k in 0..count {
+        put_slot(out, k, epochs[from + k], plan[k]);
     }
 }

@@ -2,7 +2,7 @@
 // A survey's numbers are lent: slot k of replica c stands at c * MAX_SLOTS + k. Replicas and slots count from 0 here.
 #![tactic(auto)]
 
-ghost use Rattle.std.specs.Prelude.{◌+◌, ◌<◌, ◌≤◌, ◌≡◌, cond, eqb, ltb, get_or};
+ghost use Rattle.std.specs.Prelude.{◌+◌, ◌<◌, ◌≤◌, ◌≡◌, IfSome, MatchOption, cond, eqb, get_or};
 ghost use Rattle.search.specs.Search.{listed, lowest};
 ghost use Rattle.planner.specs.Rules.{end};
 ghost use Rattle.planner.specs.Plan.{kept_byte};
@@ -13,25 +13,26 @@ use image::{MAX_SLOTS, condition};
 use planner::{SURVEY_SLOTS, action};
 
 // The plan byte of a slot that is not faulty.
+#[tactic(auto, using(planner::proofs::RuleLaws::kept_low, planner::proofs::RuleLaws::kept_high))]
 fn kept_byte(condition: u8) -> u8
     ensures { result ≡ kept_byte (condition_from condition) }
 {
     if condition < condition::FAULTY {
-        return condition;
+        condition
+    } else {
+        condition::UNUSED
     }
-    condition::UNUSED
 }
 
 // The plan byte of a faulty slot that is not truncated: fetch from the donor, or wait where there is none.
-fn faulty_byte(donor: usize, n: usize) -> u8
-    requires { n ≤ 7 }
-    ensures { result ≡ cond (ltb donor n) (11 + donor) 3 }
+fn faulty_byte(donor: Option<usize>) -> u8
+    requires { IfSome donor (λ c. c < 7) }
+    ensures { MatchOption donor (result ≡ 3) (λ c. result ≡ 11 + c) }
 {
-    if donor < n {
-        let replica = donor + 1;
-        return action::FETCH + replica as u8;
+    match donor {
+        Some(replica) => action::FETCH + (replica + 1) as u8,
+        None => action::WAIT,
     }
-    action::WAIT
 }
 
 // Plan bytes of the slots below the end of the log.
@@ -57,31 +58,29 @@ pub fn walk_slots<'a>(
         result.bytes result.end }
 {
     let mut bytes = [0u8; MAX_SLOTS];
-    let mut k: usize = 0;
-    'slots: while k < length {
-        let condition = conditions[leader * MAX_SLOTS + k];
-        if condition != condition::FAULTY {
-            bytes[k] = kept_byte(condition);
-            k += 1;
-            continue 'slots;
-        }
-        let mut c: usize = 0;
-        let donor = loop {
-            if n <= c {
-                if may_truncate(readable, conditions, epochs, n, leader, k) {
-                    break 'slots;
+    let end = 'slots: {
+        for k in 0..length {
+            let condition = conditions[leader * MAX_SLOTS + k];
+            if condition != condition::FAULTY {
+                bytes[k] = kept_byte(condition);
+                continue;
+            }
+            let donor = 'replicas: {
+                for c in 0..n {
+                    if has_slot(readable, conditions, epochs, leader, k, c) {
+                        break 'replicas Some(c);
+                    }
                 }
-                break n;
+                None
+            };
+            if donor.is_none() && may_truncate(readable, conditions, epochs, n, leader, k) {
+                break 'slots k;
             }
-            if has_slot(readable, conditions, epochs, leader, k, c) {
-                break c;
-            }
-            c += 1;
-        };
-        bytes[k] = faulty_byte(donor, n);
-        k += 1;
-    }
-    Walk { bytes, end: k }
+            bytes[k] = faulty_byte(donor);
+        }
+        length
+    };
+    Walk { bytes, end }
 }
 
 // The byte of a used slot from the lowest truncated one on.
@@ -100,10 +99,8 @@ pub fn mark_truncated(bytes: [u8; MAX_SLOTS], end: usize, length: usize) -> [u8;
     ensures { result ≡ listed 64 (marked_byte bytes end length) }
 {
     let mut marked = bytes;
-    let mut k = end;
-    while k < length {
+    for k in end..length {
         marked[k] = truncated_byte(k, end);
-        k += 1;
     }
     marked
 }
@@ -113,12 +110,6 @@ pub fn first_waiting(bytes: &[u8; MAX_SLOTS], end: usize) -> usize
     requires { end ≤ 64 }
     ensures { result ≡ lowest (λ k. eqb (get_or bytes.now k 0) 3) end }
 {
-    let mut k: usize = 0;
-    while k < end {
-        if bytes[k] == action::WAIT {
-            return k;
-        }
-        k += 1;
-    }
-    k
+    let waiting = bytes[..end].iter().position(|&byte| byte == action::WAIT);
+    waiting.unwrap_or(end)
 }

@@ -7,12 +7,12 @@ ghost use Rattle.slices.specs.Parts.{spliced};
 ghost use Rattle.record.specs.Layout.{is_witness, header_size, record_size, entry_size, blank_record, fresh_entry};
 ghost use Rattle.image.specs.Image.{image_size};
 ghost use Rattle.image.specs.Append.{formatted};
-ghost use Rattle.image.specs.Answers.{format_numbers, format_call_numbers};
+ghost use Rattle.image.specs.Answers.{numbers, format_call_numbers};
 
-use image::FormatAnswer;
+use image::refusal::Refusal;
 use locate::{entry_at, is_witness, record_at};
 use record::Shape;
-use vet::format_refusal;
+use vet::vet_format;
 use write_at::{put_blank, put_fresh};
 use write_header::put_header;
 
@@ -21,11 +21,8 @@ fn put_blanks(image: &mut [u8], shape: Shape)
     requires { (shape.m ≤ 64) × (header_size shape + record_size * shape.m ≤ length image.old) }
     ensures { image.new ≡ spliced image.old (header_size shape) (joined shape.m (λ k. blank_record)) }
 {
-    let m = shape.m;
-    let mut k: usize = 0;
-    while k < m {
+    for k in 0..shape.m {
         put_blank(image, record_at(shape, k));
-        k += 1;
     }
 }
 
@@ -35,11 +32,8 @@ fn put_freshes(image: &mut [u8], shape: Shape)
     ensures { image.new
         ≡ spliced image.old (header_size shape + record_size * shape.m) (joined shape.m (λ k. fresh_entry)) }
 {
-    let m = shape.m;
-    let mut k: usize = 0;
-    while k < m {
+    for k in 0..shape.m {
         put_fresh(image, entry_at(shape, k));
-        k += 1;
     }
 }
 
@@ -49,23 +43,24 @@ fn put_entries(image: &mut [u8], shape: Shape, replica: usize)
     ensures { image.new ≡ spliced image.old (header_size shape + record_size * shape.m)
         (cond (is_witness shape replica) [] (joined shape.m (λ k. fresh_entry))) }
 {
-    if is_witness(shape, replica) {
-        return;
+    if !is_witness(shape, replica) {
+        put_freshes(image, shape);
     }
-    put_freshes(image, shape);
 }
 
 // Makes a fresh image, a card's or a witness's, in a buffer of its size, of a log whose first slot has index `first`.
-pub fn format_image(image: &mut [u8], shape: Shape, replica: usize, first: u32) -> FormatAnswer
-    ensures answer { format_numbers result ≡ format_call_numbers shape replica first (length image.old) }
+pub fn format_image(
+    image: &mut [u8],
+    shape: Shape,
+    replica: usize,
+    first: u32,
+) -> Result<(), Refusal>
+    ensures answer { numbers result ≡ format_call_numbers shape replica first (length image.old) }
     ensures image { image.new ≡ formatted shape replica first image.old }
 {
-    let refusal = format_refusal(shape, replica, first, image.len());
-    if refusal != 0 {
-        return FormatAnswer::Refused(refusal);
-    }
+    vet_format(shape, replica, first, image.len())?;
     put_header(image, shape, replica, first);
     put_blanks(image, shape);
     put_entries(image, shape, replica);
-    FormatAnswer::Formatted
+    Ok(())
 }

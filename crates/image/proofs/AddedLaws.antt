@@ -10,7 +10,9 @@ use Rattle.slices.specs.Parts.{Bytes}
 use Rattle.record.specs.Meaning.{Entry, good, blank, intact, broken}
 use Rattle.image.specs.Image.{Image}
 use Rattle.image.specs.SetSlot.{set_record, set_entry}
-use Rattle.image.specs.View.{Condition, Unused, Whole, RecordLost, Faulty, Lost, RecordOnly, condition, epoch_of, is_lost, condition_at, epoch_at, log_length}
+use Rattle.image.specs.View.{condition, epoch_of, is_lost, condition_at, epoch_at, log_length}
+use Rattle.image.specs.declared.condition.Condition.{Condition}
+use Rattle.image.specs.declared.condition.Condition.TheVariants.{Unused, Whole, RecordLost, Faulty, Lost, RecordOnly}
 use Rattle.image.specs.Verdict.{is_fresh, verdict_of, verdict_at}
 use Rattle.image.proofs.ViewLaws.{Sound}
 use Rattle.image.proofs.StoreLaws.{entry_length, entry_epoch_lem, entry_condition_other, entry_sound, record_condition, record_condition_other, record_epoch_lem, record_epoch_other, appended_length, appended_sound}

@@ -18,7 +18,8 @@ use Rattle.record.proofs.RecordLaws.{read_good, is_epoch_lem}
 use Rattle.record.proofs.EntryLaws.{read_intact, write_read_entry, intact_for, intact_payload}
 use Rattle.image.specs.Image.{Image, index, image_size, record_at, entry_at, first_in, decode_image}
 use Rattle.image.specs.SetSlot.{set_record, set_entry}
-use Rattle.image.specs.View.{Whole, condition_at, log_length, call_refusal, read_refusal, card_refusal}
+use Rattle.image.specs.View.{condition_at, log_length, call_refusal, read_refusal, card_refusal}
+use Rattle.image.specs.declared.condition.Condition.TheVariants.{Whole}
 use Rattle.image.specs.Read.{is_whole, has_payload, payload_of}
 use Rattle.image.specs.Append.{append_refusal, stored, appended}
 use Rattle.image.specs.AppendClaim.{OneMore}

@@ -14,7 +14,8 @@ use Rattle.slices.proofs.SameLaws.{and_off}
 use Rattle.record.specs.declared.Shape.{Shape}
 use Rattle.record.specs.Layout.{is_witness}
 use Rattle.image.specs.Image.{Image, image_size, first_in, decode_image, fresh_image}
-use Rattle.image.specs.View.{Unused, Whole, condition, epoch_of, condition_at, epoch_at, log_length, card_refusal}
+use Rattle.image.specs.View.{condition, epoch_of, condition_at, epoch_at, log_length, card_refusal}
+use Rattle.image.specs.declared.condition.Condition.TheVariants.{Unused, Whole}
 use Rattle.image.specs.Verdict.{is_fresh, verdict_at}
 use Rattle.image.specs.Read.{is_whole, epochs_of, verdicts_of, has_payload, payload_of}
 use Rattle.image.specs.Append.{format_refusal, append_refusal, appended}

@@ -1,14 +1,14 @@
 -- Formatting and appending, test by test: which refusal it is, and what is answered and left then.
 use Prim.Native.Nat.{ℕ, suc, ◌+◌, ◌-◌, ◌*◌, ◌≤◌, ◌<◌}
 use mathlib.Core.Path.{◌≡◌, refl, sym, ap, ◌∙◌}
-use mathlib.Core.Bool.{true, false, cond, ◌||◌}
+use mathlib.Core.Bool.{true, cond, ◌||◌}
 use mathlib.Core.List.{List, [], ◌++◌}
 use native.Mathlib.Omega.{arith}
 use native.Mathlib.Nat.{mul-le-mul_left}
 use native.Mathlib.Numerals.{add-one}
 use native.Mathlib.Decide.{ℕ_discrete}
 use lib.Dec.{eqb, leb, ltb}
-use lib.ListN.{length, get_or, length-append, take-append-drop}
+use lib.ListN.{length, length-append, take-append-drop}
 use borrow.Author.Tests.{eq-eqb, ne_eqb, lt-ltb, le-ltb, le-leb, lt-leb}
 use Rattle.search.specs.Search.{joined}
 use Rattle.slices.specs.Parts.{Bytes, spliced}
@@ -18,10 +18,13 @@ use Rattle.record.specs.Layout.{is_witness, header_size, header_bytes, record_by
 use Rattle.record.specs.Meaning.{first_index}
 use Rattle.record.proofs.LayoutLaws.{length_header, length_entry}
 use Rattle.record.proofs.WriteLaws.{start, then, whole}
-use Rattle.image.specs.Refusal.{refuse, ◌else◌}
+use Rattle.image.specs.declared.refusal.Refusal.{Refusal}
+use Rattle.image.specs.Refusal.{refusal_number, refuse, ◌else◌}
 use Rattle.image.specs.Image.{Image, index, image_size, record_at, entry_at, decode_image, fresh_image}
 use Rattle.image.specs.View.{epoch_at, log_length, card_refusal, witness_refusal}
-use Rattle.image.specs.Seen.{Seen}
+use Rattle.image.specs.declared.condition.Condition.TheVariants.{Unused}
+use Rattle.image.specs.declared.condition.Slot.{Slot}
+use Rattle.image.specs.Seen.{slot_of, slot_in, Seen}
 use Rattle.image.specs.Append.{last_epoch, format_refusal, append_refusal, stored, appended, formatted}
 use Rattle.image.specs.Witness.{record_refusal, recorded, record_appended}
 use Rattle.image.specs.Answers.{refused, value, numbered, format_call_numbers}
@@ -34,54 +37,50 @@ use Rattle.image.proofs.DecodeLaws.{size_is, record_begins, records_end, entries
 use Rattle.image.proofs.AcceptLaws.{accepts_elim, record_accepts_elim}
 use Rattle.image.proofs.FreshLaws.{length_records, length_fresh_entries, length_fresh_image}
 
+-- a refusal has a number, which is not 0
+pub number_above : (e : Refusal) → 0 < refusal_number e
+number_above e = grind arith
+
 -- ---- formatting
 
-module _ (Z : Shape) (c first : ℕ) (b : Bytes) {r : ℕ} (is : r ≡ format_refusal Z c first (length b)) where
-  pub format_refused : ¬ (r ≡ 0) → (refused r ≡ format_call_numbers Z c first (length b)) × (b ≡ formatted Z c first b)
-  unfolding numbered formatted
-  format_refused h = let off = ne_eqb r 0 h in (sym (rw (← is, off)), sym (rw (← is, off)))
+module _ (Z : Shape) (c first : ℕ) (b : Bytes) (free : 0 ≡ format_refusal Z c first (length b)) where
+  pub format_few : Z.m ≤ 64
+  format_few = slots_high Z.m (called_slots Z c (length b) (formatted_call Z c first (length b) (sym free)))
 
-  module _ (free : r ≡ 0) where
-    pub format_few : Z.m ≤ 64
-    format_few = slots_high Z.m (called_slots Z c (length b) (formatted_call Z c first (length b) (sym is ∙ free)))
+  pub format_size : length b ≡ image_size Z c
+  format_size = called_size Z c (length b) (formatted_call Z c first (length b) (sym free))
 
-    pub format_size : length b ≡ image_size Z c
-    format_size = called_size Z c (length b) (formatted_call Z c first (length b) (sym is ∙ free))
+  module _ (f : ℕ) {x : Bytes} (p : x ≡ spliced b 0 (header_bytes Z c f)) where
+    pub headed_size : length x ≡ image_size Z c
+    headed_size = ap length p ∙ length_spliced b 0 (header_bytes Z c f) (omega (arith, length_header Z c f, format_size, size_is Z c)) ∙ format_size
 
-    pub headed_size : {x : Bytes} → x ≡ spliced b 0 (header_bytes Z c first) → length x ≡ image_size Z c
-    headed_size p = ap length p ∙ length_spliced b 0 (header_bytes Z c first) (omega (arith, length_header Z c first, format_size, size_is Z c)) ∙ format_size
+    module _ {y : Bytes} (q : y ≡ spliced x (header_size Z) (joined Z.m (λ k. blank_record))) where
+      pub blanked_size : length y ≡ image_size Z c
+      blanked_size = ap length q ∙ length_spliced x (header_size Z) (joined Z.m (λ k. blank_record)) (omega (arith, length_records Z.m, headed_size, size_is Z c)) ∙ headed_size
 
-    pub blanked_size : {x y : Bytes} → x ≡ spliced b 0 (header_bytes Z c first) → y ≡ spliced x (header_size Z) (joined Z.m (λ k. blank_record)) → length y ≡ image_size Z c
-    blanked_size {x} p q = ap length q ∙ length_spliced x (header_size Z) (joined Z.m (λ k. blank_record)) (omega (arith, length_records Z.m, headed_size p, size_is Z c)) ∙ headed_size p
+      pub format_done : f ≡ first → {z : Bytes} → z ≡ spliced y (header_size Z + 34 * Z.m) (cond (is_witness Z c) [] (joined Z.m (λ k. fresh_entry)))
+          → (value tt ≡ format_call_numbers Z c first (length b)) × (z ≡ formatted Z c first b)
+      unfolding numbered formatted
+      format_done e {z} s = (sym (rw (← free)), made ∙ sym (rw (← free, ← e)))
+        where
+          head : length (header_bytes Z c f) ≡ header_size Z
+          head = length_header Z c f
 
-  pub format_done : r ≡ 0 → {x y z : Bytes} → x ≡ spliced b 0 (header_bytes Z c first) → y ≡ spliced x (header_size Z) (joined Z.m (λ k. blank_record))
-      → z ≡ spliced y (header_size Z + 34 * Z.m) (cond (is_witness Z c) [] (joined Z.m (λ k. fresh_entry))) → (value tt ≡ format_call_numbers Z c first (length b)) × (z ≡ formatted Z c first b)
-  unfolding numbered formatted
-  format_done h {x} {y} {z} p q s = (sym (rw (← is, h)), made ∙ sym (rw (← is, h)))
-    where
-      head : length (header_bytes Z c first) ≡ header_size Z
-      head = length_header Z c first
+          records : length (header_bytes Z c f ++ joined Z.m (λ k. blank_record)) ≡ header_size Z + 34 * Z.m
+          records = length-append (header_bytes Z c f) (joined Z.m (λ k. blank_record)) ∙ omega (arith, head, length_records Z.m)
 
-      records : length (header_bytes Z c first ++ joined Z.m (λ k. blank_record)) ≡ header_size Z + 34 * Z.m
-      records = length-append (header_bytes Z c first) (joined Z.m (λ k. blank_record)) ∙ omega (arith, head, length_records Z.m)
+          made : z ≡ fresh_image Z c f
+          made =
+              unfold fresh_image in
+              (let x = then (image_size Z c) 0 (header_bytes Z c f) (start _ b format_size) refl (omega (arith, head, size_is Z c)) p in
+              let y = then (image_size Z c) (header_size Z) (joined Z.m (λ k. blank_record)) x head (omega (arith, length_records Z.m, size_is Z c)) q in
+              let z = then (image_size Z c) (header_size Z + 34 * Z.m) (cond (is_witness Z c) [] (joined Z.m (λ k. fresh_entry))) y records (omega (arith, length_fresh_entries Z c, size_is Z c)) s in
+              whole z (length_fresh_image Z c f))
 
-      made : z ≡ fresh_image Z c first
-      made =
-          unfold fresh_image in
-          (let x = then (image_size Z c) 0 (header_bytes Z c first) (start _ b (format_size h)) refl (omega (arith, head, size_is Z c)) p in
-          let y = then (image_size Z c) (header_size Z) (joined Z.m (λ k. blank_record)) x head (omega (arith, length_records Z.m, size_is Z c)) q in
-          let z = then (image_size Z c) (header_size Z + 34 * Z.m) (cond (is_witness Z c) [] (joined Z.m (λ k. fresh_entry))) y records (omega (arith, length_fresh_entries Z c, size_is Z c)) s in
-          whole z (length_fresh_image Z c first))
-
--- the entries of a card, and of a witness none
-module _ (Z : Shape) (c : ℕ) (b : Bytes) (at : ℕ) where
-  pub entries_put : is_witness Z c ≡ false → {y : Bytes} → y ≡ spliced b at (joined Z.m (λ k. fresh_entry))
-      → y ≡ spliced b at (cond (is_witness Z c) [] (joined Z.m (λ k. fresh_entry)))
-  entries_put card h = rw card h
-
-  pub entries_none : is_witness Z c ≡ true → b ≡ spliced b at (cond (is_witness Z c) [] (joined Z.m (λ k. fresh_entry)))
-  unfolding spliced
-  entries_none witness = let z : at + 0 ≡ at = omega arith in rw (witness, z) (sym (take-append-drop at b))
+-- a witness has no entries
+pub entries_none : (Z : Shape) (c : ℕ) (b : Bytes) (at : ℕ) → is_witness Z c ≡ true → b ≡ spliced b at (cond (is_witness Z c) [] (joined Z.m (λ k. fresh_entry)))
+unfolding spliced
+entries_none Z c b at witness = let z : at + 0 ≡ at = omega arith in rw (witness, z) (sym (take-append-drop at b))
 
 -- ---- appending: refusals 8 to 10
 
@@ -113,68 +112,67 @@ module _ (last len m e size : ℕ) where
         deny_none h = sym (rw (ne_eqb e 0 p, le-ltb e last q, le-ltb 200 size s, lt-leb m len h))
 
 -- the last epoch as the scan has it
-pub last_seen : (m : ℕ) (i : Image) {first len : ℕ} {cs es : List ℕ} → Seen m i first len cs es → cond (eqb len 0) 0 (get_or es (0 + len - 1) 0) ≡ last_epoch m i
+pub last_seen : (m : ℕ) (i : Image) {first len : ℕ} {slots : List Slot} → Seen m i first len slots
+    → cond (eqb len 0) 0 (slot_in slots (len - 1)).epoch ≡ last_epoch m i
 unfolding last_epoch
-last_seen m i {len = len} {es = es} s =
-    let z : 0 + len ≡ len = omega arith in
-    rw (z, ← s.length_is) (go (ℕ_discrete len 0))
+last_seen m i {len = len} {slots = slots} s = rw (← s.length_is) (go (ℕ_discrete len 0))
   where
-    go : Dec (len ≡ 0) → cond (eqb len 0) 0 (get_or es (len - 1) 0) ≡ cond (eqb len 0) 0 (epoch_at i (len - 1))
+    go : Dec (len ≡ 0) → cond (eqb len 0) 0 (slot_in slots (len - 1)).epoch ≡ cond (eqb len 0) 0 (epoch_at i (len - 1))
     go (yes q) = rw (eq-eqb len 0 q)
     go (no q) =
         let h : len - 1 < m = omega (arith, s.length_is, length_le m i) in
-        rw (ne_eqb len 0 q) (taken_at m (epoch_at i) es s.epochs_are (len - 1) h)
+        rw (ne_eqb len 0 q) (ap (λ (v : Slot). v.epoch) (taken_at m (slot_of i) slots (record { condition = Unused; epoch = 0 }) s.slots_are (len - 1) h))
 
 -- ---- appending: which refusal it is
 
 -- to a card
-module _ (Z : Shape) (c : ℕ) (b : Bytes) (e size : ℕ) {r : ℕ} (call : r ≡ card_refusal Z c b) where
-  pub refused_call : ¬ (r ≡ 0) → append_refusal Z c b e size ≡ r
+module _ (Z : Shape) (c : ℕ) (b : Bytes) (e size : ℕ) where
+  pub refused_call : (r : Refusal) → refusal_number r ≡ card_refusal Z c b → append_refusal Z c b e size ≡ refusal_number r
   unfolding append_refusal
-  refused_call h = else_first _ _ (λ q. h (call ∙ q)) ∙ sym call
+  refused_call r call = else_first _ _ (λ q. omega (arith, q, number_above r, call)) ∙ sym call
 
-  module _ (free : r ≡ 0) {first len : ℕ} {cs es : List ℕ} (s : Seen Z.m (decode_image Z c b) first len cs es) where
+  module _ (free : 0 ≡ card_refusal Z c b) {first len : ℕ} {slots : List Slot} (s : Seen Z.m (decode_image Z c b) first len slots) where
     pub used_few : len ≤ 64
-    used_few = omega (arith, s.length_is, length_le Z.m (decode_image Z c b), slots_high Z.m (opened_slots Z c b r call free))
+    used_few = omega (arith, s.length_is, length_le Z.m (decode_image Z c b), slots_high Z.m (opened_slots Z c b 0 free refl))
 
-    module _ {last d : ℕ} (l : last ≡ cond (eqb len 0) 0 (get_or es (0 + len - 1) 0))
+    module _ {last d : ℕ} (l : last ≡ cond (eqb len 0) 0 (slot_in slots (len - 1)).epoch)
         (k : d ≡ (refuse 8 (eqb e 0 || ltb e last) else refuse 9 (ltb 200 size) else refuse 10 (leb Z.m len))) where
       pub refused_append : append_refusal Z c b e size ≡ d
       unfolding append_refusal
-      refused_append = else_next _ (sym call ∙ free) ∙ sym (rw (l ∙ last_seen Z.m (decode_image Z c b) s, s.length_is) at k)
+      refused_append = else_next _ (sym free) ∙ sym (rw (l ∙ last_seen Z.m (decode_image Z c b) s, s.length_is) at k)
 
       -- an append that goes on
-      pub slot_free : d ≡ 0 → (Z.m ≤ 64) × (len < Z.m) × (entry_at Z Z.m ≤ length b) × (size ≤ 200)
+      pub slot_free : 0 ≡ d → (Z.m ≤ 64) × (len < Z.m) × (entry_at Z Z.m ≤ length b) × (size ≤ 200)
       slot_free z =
-          let a = accepts_elim Z c b e size (refused_append ∙ z) in
-          (slots_high Z.m (opened_slots Z c b r call free), omega (arith, s.length_is, a.room), omega (arith, opened_size Z c b r call free, entries_end Z c (opened_card Z c b r call free)), a.short)
+          let a = accepts_elim Z c b e size (refused_append ∙ sym z) in
+          (slots_high Z.m (opened_slots Z c b 0 free refl), omega (arith, s.length_is, a.room), omega (arith, opened_size Z c b 0 free refl, entries_end Z c (opened_card Z c b 0 free refl)), a.short)
 
 -- to a witness: a payload of no bytes is never too long
 pub bare : (x y : ℕ) → (x else refuse 9 (ltb 200 0) else y) ≡ (x else y)
 bare x y = ap (λ (z : ℕ). x else z) (else_next y (refuse_off 9 refl))
 
-module _ (Z : Shape) (c : ℕ) (b : Bytes) (e : ℕ) {r : ℕ} (call : r ≡ witness_refusal Z c b) where
-  pub record_call : ¬ (r ≡ 0) → record_refusal Z c b e ≡ r
+module _ (Z : Shape) (c : ℕ) (b : Bytes) (e : ℕ) where
+  pub record_call : (r : Refusal) → refusal_number r ≡ witness_refusal Z c b → record_refusal Z c b e ≡ refusal_number r
   unfolding record_refusal
-  record_call h = else_first _ _ (λ q. h (call ∙ q)) ∙ sym call
+  record_call r call = else_first _ _ (λ q. omega (arith, q, number_above r, call)) ∙ sym call
 
-  module _ (free : r ≡ 0) {first len : ℕ} {cs es : List ℕ} (s : Seen Z.m (decode_image Z c b) first len cs es) where
+  module _ (free : 0 ≡ witness_refusal Z c b) {first len : ℕ} {slots : List Slot} (s : Seen Z.m (decode_image Z c b) first len slots) where
     pub used_short : len ≤ 64
-    used_short = omega (arith, s.length_is, length_le Z.m (decode_image Z c b), slots_high Z.m (witnessed_slots Z c b r call free))
+    used_short = omega (arith, s.length_is, length_le Z.m (decode_image Z c b), slots_high Z.m (witnessed_slots Z c b 0 free refl))
 
-    module _ {last d : ℕ} (l : last ≡ cond (eqb len 0) 0 (get_or es (0 + len - 1) 0))
+    module _ {last d : ℕ} (l : last ≡ cond (eqb len 0) 0 (slot_in slots (len - 1)).epoch)
         (k : d ≡ (refuse 8 (eqb e 0 || ltb e last) else refuse 9 (ltb 200 0) else refuse 10 (leb Z.m len))) where
       pub refused_record : record_refusal Z c b e ≡ d
       unfolding record_refusal
       refused_record =
-          else_next _ (sym call ∙ free)
+          else_next _ (sym free)
           ∙ sym (bare (refuse 8 (eqb e 0 || ltb e (last_epoch Z.m (decode_image Z c b)))) (refuse 10 (leb Z.m (log_length Z.m (decode_image Z c b)))))
           ∙ sym (rw (l ∙ last_seen Z.m (decode_image Z c b) s, s.length_is) at k)
 
-      pub record_free : d ≡ 0 → (Z.m ≤ 64) × (len < Z.m) × (record_at Z Z.m ≤ length b)
+      pub record_free : 0 ≡ d → (Z.m ≤ 64) × (len < Z.m) × (record_at Z Z.m ≤ length b)
       record_free z =
-          let a = record_accepts_elim Z c b e (refused_record ∙ z) in
-          (slots_high Z.m (witnessed_slots Z c b r call free), omega (arith, s.length_is, a.room), omega (arith, witnessed_size Z c b r call free, records_end Z c))
+          let a = record_accepts_elim Z c b e (refused_record ∙ sym z) in
+          (slots_high Z.m (witnessed_slots Z c b 0 free refl), omega (arith, s.length_is, a.room), omega (arith, witnessed_size Z c b 0 free refl, records_end Z c))
 
 -- ---- appending: the slot
 
@@ -194,17 +192,17 @@ module _ (Z : Shape) (first k : ℕ) (b : Bytes) (km : k < Z.m) (size : entry_at
 
 -- ---- appending: what is answered and left
 
-module _ (Z : Shape) (c : ℕ) (b : Bytes) (e : ℕ) (p : Bytes) {r : ℕ} (is : append_refusal Z c b e (length p) ≡ r) where
-  pub append_refused : ¬ (r ≡ 0)
-      → (refused r ≡ numbered (append_refusal Z c b e (length p)) (suc (log_length Z.m (decode_image Z c b)))) × (b ≡ appended Z c b e p)
-  unfolding numbered appended
-  append_refused h = let off = ne_eqb r 0 h in (sym (rw (is, off)), sym (rw (is, off)))
+pub append_refused : (Z : Shape) (c : ℕ) (b : Bytes) (e : ℕ) (p : Bytes) {r : ℕ} → append_refusal Z c b e (length p) ≡ r → ¬ (r ≡ 0)
+    → (refused r ≡ numbered (append_refusal Z c b e (length p)) (suc (log_length Z.m (decode_image Z c b)))) × (b ≡ appended Z c b e p)
+unfolding numbered appended
+append_refused Z c b e p {r} is h = let off = ne_eqb r 0 h in (sym (rw (is, off)), sym (rw (is, off)))
 
-  pub append_done : r ≡ 0 → {first k : ℕ} {d : Bytes} → first ≡ first_index (decode_image Z c b).header → k ≡ log_length Z.m (decode_image Z c b)
-      → d ≡ stored Z first b k e p
-      → (value (k + 1) ≡ numbered (append_refusal Z c b e (length p)) (suc (log_length Z.m (decode_image Z c b)))) × (d ≡ appended Z c b e p)
-  unfolding numbered appended
-  append_done h f q s = (sym (rw (is, h, ← q, add-one)), rw (is, h, ← q, ← first_is Z c b, ← f) s)
+pub append_done : (Z : Shape) (c : ℕ) (b : Bytes) (e : ℕ) (p : Bytes) → append_refusal Z c b e (length p) ≡ 0
+    → {first k : ℕ} {d : Bytes} → first ≡ first_index (decode_image Z c b).header → k ≡ log_length Z.m (decode_image Z c b)
+    → d ≡ stored Z first b k e p
+    → (value (k + 1) ≡ numbered (append_refusal Z c b e (length p)) (suc (log_length Z.m (decode_image Z c b)))) × (d ≡ appended Z c b e p)
+unfolding numbered appended
+append_done Z c b e p is f q s = (sym (rw (is, ← q, add-one)), rw (is, ← q, ← first_is Z c b, ← f) s)
 
 -- ---- a witness's record
 
@@ -216,14 +214,14 @@ pub slot_recorded : (Z : Shape) (first k : ℕ) (b : Bytes) (e : ℕ) {j : ℕ} 
 unfolding recorded
 slot_recorded Z first k b e i line r = rw (r, i, line)
 
-module _ (Z : Shape) (c : ℕ) (b : Bytes) (e : ℕ) {r : ℕ} (is : record_refusal Z c b e ≡ r) where
-  pub record_refused : ¬ (r ≡ 0)
-      → (refused r ≡ numbered (record_refusal Z c b e) (suc (log_length Z.m (decode_image Z c b)))) × (b ≡ record_appended Z c b e)
-  unfolding numbered record_appended
-  record_refused h = let off = ne_eqb r 0 h in (sym (rw (is, off)), sym (rw (is, off)))
+pub record_refused : (Z : Shape) (c : ℕ) (b : Bytes) (e : ℕ) {r : ℕ} → record_refusal Z c b e ≡ r → ¬ (r ≡ 0)
+    → (refused r ≡ numbered (record_refusal Z c b e) (suc (log_length Z.m (decode_image Z c b)))) × (b ≡ record_appended Z c b e)
+unfolding numbered record_appended
+record_refused Z c b e {r} is h = let off = ne_eqb r 0 h in (sym (rw (is, off)), sym (rw (is, off)))
 
-  pub record_done : r ≡ 0 → {first k : ℕ} {d : Bytes} → first ≡ first_index (decode_image Z c b).header → k ≡ log_length Z.m (decode_image Z c b)
-      → d ≡ recorded Z first b k e
-      → (value (k + 1) ≡ numbered (record_refusal Z c b e) (suc (log_length Z.m (decode_image Z c b)))) × (d ≡ record_appended Z c b e)
-  unfolding numbered record_appended
-  record_done h f q s = (sym (rw (is, h, ← q, add-one)), rw (is, h, ← q, ← first_is Z c b, ← f) s)
+pub record_done : (Z : Shape) (c : ℕ) (b : Bytes) (e : ℕ) → record_refusal Z c b e ≡ 0
+    → {first k : ℕ} {d : Bytes} → first ≡ first_index (decode_image Z c b).header → k ≡ log_length Z.m (decode_image Z c b)
+    → d ≡ recorded Z first b k e
+    → (value (k + 1) ≡ numbered (record_refusal Z c b e) (suc (log_length Z.m (decode_image Z c b)))) × (d ≡ record_appended Z c b e)
+unfolding numbered record_appended
+record_done Z c b e is f q s = (sym (rw (is, ← q, add-one)), rw (is, ← q, ← first_is Z c b, ← f) s)

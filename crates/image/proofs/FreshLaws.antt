@@ -23,7 +23,8 @@ use Rattle.record.proofs.HeaderLaws.{read_proper}
 use Rattle.record.proofs.RecordLaws.{read_blank}
 use Rattle.record.proofs.EntryLaws.{fresh_read}
 use Rattle.image.specs.Image.{Image, index, entries_size, image_size, record_at, entry_at, decode_under, first_in, decode_image, fresh_image}
-use Rattle.image.specs.View.{Unused, condition, is_blank, is_proper, is_lost, condition_at, log_length, call_refusal, read_refusal}
+use Rattle.image.specs.View.{condition, is_blank, is_proper, is_lost, condition_at, log_length, call_refusal, read_refusal}
+use Rattle.image.specs.declared.condition.Condition.TheVariants.{Unused}
 use Rattle.image.specs.Verdict.{is_fresh, verdict_at}
 use Rattle.image.specs.Append.{format_refusal}
 use Rattle.image.proofs.RefusalLaws.{else_zero}

@@ -17,7 +17,8 @@ use Rattle.record.proofs.LayoutLaws.{length_blank, length_entry}
 use Rattle.record.proofs.RecordLaws.{good_for, read_blank, epoch_low, epoch_high}
 use Rattle.image.specs.Image.{Image, index, image_size, record_at, entry_at, first_in, decode_image}
 use Rattle.image.specs.SetSlot.{set_record}
-use Rattle.image.specs.View.{Faulty, condition_at, epoch_at, log_length, card_refusal}
+use Rattle.image.specs.View.{condition_at, epoch_at, log_length, card_refusal}
+use Rattle.image.specs.declared.condition.Condition.TheVariants.{Faulty}
 use Rattle.image.specs.Verdict.{verdict_at}
 use Rattle.image.specs.Append.{last_epoch, append_refusal, stored, appended}
 use Rattle.image.specs.LastEntry.{TwoHistories, Untold, MayBeTorn}

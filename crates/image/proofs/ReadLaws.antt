@@ -1,10 +1,10 @@
 -- The answers of reading, case by case.
 use Prim.Native.Nat.{ℕ}
-use mathlib.Core.Path.{◌≡◌, sym, ◌∙◌}
+use mathlib.Core.Path.{◌≡◌, sym, ap, ◌∙◌}
 use mathlib.Core.Bool.{true, false, not, ◌&&◌}
 use mathlib.Core.List.{List}
 use lib.Dec.{eqb}
-use lib.ListN.{length, get_or}
+use lib.ListN.{length}
 use borrow.Author.Tests.{eq-eqb, ne_eqb}
 use Rattle.search.specs.Search.{listed}
 use Rattle.search.proofs.ListedLaws.{listed_cong}
@@ -15,7 +15,9 @@ use Rattle.record.specs.Layout.{is_witness}
 use Rattle.image.specs.Refusal.{refuse, unless_refused}
 use Rattle.image.specs.Image.{Image, image_size, decode_image}
 use Rattle.image.specs.View.{epoch_at, is_slots, call_refusal, image_refusal, read_refusal, card_refusal, witness_refusal}
-use Rattle.image.specs.Seen.{Seen}
+use Rattle.image.specs.declared.condition.Condition.TheVariants.{Unused}
+use Rattle.image.specs.declared.condition.Slot.{Slot}
+use Rattle.image.specs.Seen.{slot_of, slot_in, Seen}
 use Rattle.image.specs.Scan.{Marked}
 use Rattle.image.specs.Read.{lent_refusal, epochs_of, verdicts_of}
 use Rattle.image.specs.Witness.{epochs_refusal}
@@ -126,10 +128,11 @@ witness_done {q} e len begins used first x es es' l f p = (rw (e, l, f), rw (e, 
 -- ---- what is filled
 
 -- what the view tells is what the buffers are filled from
-module _ (m : ℕ) (i : Image) {first : ℕ} (used : ℕ) (cs es : List ℕ) (s : Seen m i first used cs es) where
-  pub seen_verdicts : {vs : List ℕ} → (Marked m i used cs → vs ≡ verdicts_of m i) → vs ≡ verdicts_of m i
-  seen_verdicts f = f (record { length_is = s.length_is; conditions_are = s.conditions_are })
+module _ (m : ℕ) (i : Image) {first : ℕ} (used : ℕ) (slots : List Slot) (s : Seen m i first used slots) where
+  pub seen_verdicts : {vs : List ℕ} → (Marked m i used slots → vs ≡ verdicts_of m i) → vs ≡ verdicts_of m i
+  seen_verdicts f = f (record { length_is = s.length_is; slots_are = s.slots_are })
 
-  pub seen_epochs : (l : ℕ) {es' : List ℕ} → l ≡ m → es' ≡ listed l (λ k. get_or es k 0) → es' ≡ epochs_of m i
+  pub seen_epochs : (l : ℕ) {es : List ℕ} → l ≡ m → es ≡ listed l (λ k. (slot_in slots k).epoch) → es ≡ epochs_of m i
   unfolding epochs_of
-  seen_epochs l h e = e ∙ rw h (listed_cong m (λ k. get_or es k 0) (epoch_at i) (taken_at m (epoch_at i) es s.epochs_are))
+  seen_epochs l h e =
+      e ∙ rw h (listed_cong m (λ k. (slot_in slots k).epoch) (epoch_at i) (λ k h. ap (λ (v : Slot). v.epoch) (taken_at m (slot_of i) slots (record { condition = Unused; epoch = 0 }) s.slots_are k h)))

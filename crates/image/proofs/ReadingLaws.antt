@@ -15,7 +15,8 @@ use Rattle.record.specs.Exactly.{IntactFor}
 use Rattle.record.proofs.HeaderLaws.{read_first_high}
 use Rattle.record.proofs.EntryLaws.{intact_for, intact_payload, one_index}
 use Rattle.image.specs.Image.{Image, index, entry_at, first_in, decode_image}
-use Rattle.image.specs.View.{Unused, Whole, RecordLost, Faulty, condition, epoch_of, condition_at, epoch_at, log_length, card_refusal}
+use Rattle.image.specs.View.{condition, epoch_of, condition_at, epoch_at, log_length, card_refusal}
+use Rattle.image.specs.declared.condition.Condition.TheVariants.{Unused, Whole, RecordLost, Faulty}
 use Rattle.image.specs.Verdict.{is_fresh, verdict_at}
 use Rattle.image.specs.Read.{has_payload, payload_of}
 use Rattle.image.specs.ReadingClaim.{Stale, Reading}

@@ -1,9 +1,11 @@
--- The laws of `refuse` and `_else_`.
+-- The laws of `refuse` and `else`.
 use Prim.Native.Nat.{ℕ, zero, suc}
-use mathlib.Core.Path.{◌≡◌, refl}
+use mathlib.Core.Path.{◌≡◌, refl, ap}
 use mathlib.Core.Bool.{Bool, true, false}
 use native.Mathlib.Omega.{arith}
-use Rattle.image.specs.Refusal.{refuse, ◌else◌}
+use Rattle.std.specs.Prelude.{Result, Ok, Err, IsErrAnd}
+use Rattle.image.specs.declared.refusal.Refusal.{Refusal}
+use Rattle.image.specs.Refusal.{refusal_number, refusal_of, refuse, ◌else◌}
 
 pub refuse_on : (k : ℕ) {b : Bool} → b ≡ true → refuse k b ≡ k
 unfolding refuse
@@ -42,3 +44,8 @@ else_zero_r (suc r) s e = absurd (omega (arith, e))
 pub else_zero : {r s : ℕ} → r ≡ 0 → s ≡ 0 → (r else s) ≡ 0
 unfolding ◌else◌
 else_zero p q = rw (p, q)
+
+-- an error that `?` hands on is the same refusal
+pub handed_on : {A : Type 0} (r : Result A Refusal) (e : Refusal) → IsErrAnd r (λ x. x ≡ e) → refusal_of r ≡ refusal_number e
+handed_on (Ok v) e h = absurd h
+handed_on (Err x) e h = ap refusal_number h

@@ -17,7 +17,8 @@ use Rattle.record.specs.Exactly.{HeaderIs, SomeHeader}
 use Rattle.record.proofs.HeaderLaws.{header_is, proper_read}
 use Rattle.image.specs.Refusal.{refuse, ◌else◌}
 use Rattle.image.specs.Image.{Image, image_size, decode_under, decode_image}
-use Rattle.image.specs.View.{Whole, Faulty, is_size, is_replica, is_slots, is_edition, is_blank, is_proper, is_lost, condition, condition_at, log_length, no_gap, none_lost, rising, image_refusal, named_refusal, call_refusal, read_refusal, card_refusal, witness_refusal, epoch_at}
+use Rattle.image.specs.View.{is_size, is_replica, is_slots, is_edition, is_blank, is_proper, is_lost, condition, condition_at, log_length, no_gap, none_lost, rising, image_refusal, named_refusal, call_refusal, read_refusal, card_refusal, witness_refusal, epoch_at}
+use Rattle.image.specs.declared.condition.Condition.TheVariants.{Whole, Faulty}
 use Rattle.image.specs.RefusalClaim.{Lowest, NoneLost, NoneBad, Passes, ReadPasses, CardPasses, WitnessPasses}
 use Rattle.image.proofs.CallLaws.{is_slots_lem, slots_low, slots_high, is_size_lem, size_low, size_high, is_replica_lem, is_edition_lem, edition_from, edition_to}
 use Rattle.image.proofs.ViewLaws.{length_le, used_below, blank_next, gap_elim, gap_intro, lost_elim, lost_intro, rising_intro, rising_all}

@@ -8,7 +8,9 @@ use borrow.Author.Tests.{eqb-true, eqb-false}
 use Rattle.slices.specs.Parts.{Bytes}
 use Rattle.record.specs.Meaning.{Record, good, blank, bad, Entry, intact, broken}
 use Rattle.image.specs.Image.{Image}
-use Rattle.image.specs.View.{Condition, Unused, Whole, RecordLost, Faulty, Lost, RecordOnly, condition, epoch_of, condition_at, epoch_at, log_length}
+use Rattle.image.specs.View.{condition, epoch_of, condition_at, epoch_at, log_length}
+use Rattle.image.specs.declared.condition.Condition.{Condition}
+use Rattle.image.specs.declared.condition.Condition.TheVariants.{Unused, Whole, RecordLost, Faulty, Lost, RecordOnly}
 use Rattle.image.specs.Verdict.{is_fresh, verdict_of, verdict_at}
 use Rattle.image.specs.Read.{is_whole}
 

@@ -1,12 +1,14 @@
 -- The verdicts of an image's slots, as they are worked out and filled in.
-use Prim.Native.Nat.{ℕ, zero, suc, ◌+◌, ◌-◌, ◌≤◌, ◌<◌}
-use mathlib.Core.Path.{◌≡◌, refl, sym, ap, ◌∙◌}
+use Prim.Native.Nat.{ℕ, suc, ◌+◌, ◌-◌, ◌≤◌, ◌<◌}
+use mathlib.Core.Path.{◌≡◌, refl, sym, ◌∙◌}
 use mathlib.Core.Bool.{Bool, true, false}
 use mathlib.Core.List.{List}
 use native.Mathlib.Omega.{arith}
-use lib.ListN.{length, take, drop, get_or, set, replicate}
+use lib.ListN.{length, take, drop, set, replicate}
+use denote.Enum.Declared.{tag_of}
 use borrow.Author.Tests.{eq-eqb, ne_eqb}
 use Rattle.search.specs.Search.{listed}
+use Rattle.std.specs.Prelude.{Option, Some, None}
 use Rattle.slices.specs.Parts.{Bytes, part}
 use Rattle.slices.specs.Same.{same}
 use Rattle.slices.proofs.SameLaws.{and_off, same_differs}
@@ -17,42 +19,21 @@ use Rattle.record.specs.Layout.{is_witness, fresh_entry}
 use Rattle.record.specs.Meaning.{Entry, intact, broken, read_entry}
 use Rattle.record.specs.Exactly.{EntryIs}
 use Rattle.record.specs.Judged.{entry_answer}
-use Rattle.record.specs.declared.EntryState.{EntryState}
-use Rattle.record.specs.declared.EntryState.TheVariants.{Intact, Broken}
+use Rattle.record.specs.declared.Intact.{Intact}
 use Rattle.record.proofs.EntryLaws.{entry_is, fresh_not_intact}
 use Rattle.image.specs.Image.{Image, entry_at, index, decode_under}
-use Rattle.image.specs.View.{Condition, Unused, Whole, RecordLost, Faulty, Lost, RecordOnly, condition_at}
-use Rattle.image.specs.View.{condition_number}
-use Rattle.image.specs.Seen.{conditions_of}
-use Rattle.image.specs.Verdict.{is_fresh, verdict_of, verdict_at}
+use Rattle.image.specs.declared.condition.Condition.TheVariants.{Unused, Faulty}
+use Rattle.image.specs.declared.condition.Slot.{Slot}
+use Rattle.image.specs.Seen.{slot_of, slot_in}
+use Rattle.image.specs.contracts.verdict.Verdict.{the_type}
+use Rattle.image.specs.declared.verdict.Verdict.{Verdict}
+use Rattle.image.specs.declared.verdict.Verdict.TheVariants as verdict
+use Rattle.image.specs.Verdict.{is_fresh, verdict_number, verdict_of, verdict_at}
 use Rattle.image.specs.Scan.{Marked}
 use Rattle.image.specs.Read.{verdicts_of}
 use Rattle.image.proofs.DecodeLaws.{entry_under, entry_ends}
 use Rattle.image.proofs.ScannedLaws.{taken_at}
 use Rattle.image.proofs.SlotLaws.{apart, list_more, list_end}
-
--- ---- conditions by number
-
-condition_of : ℕ → Condition
-condition_of zero = Unused
-condition_of (suc zero) = Whole
-condition_of (suc (suc zero)) = RecordLost
-condition_of (suc (suc (suc zero))) = Faulty
-condition_of (suc (suc (suc (suc zero)))) = Lost
-condition_of (suc (suc (suc (suc (suc n))))) = RecordOnly
-
-condition_back : (a : Condition) → condition_of (condition_number a) ≡ a
-unfolding condition_of
-condition_back Unused = refl
-condition_back Whole = refl
-condition_back RecordLost = refl
-condition_back Faulty = refl
-condition_back Lost = refl
-condition_back RecordOnly = refl
-
--- a number says which condition it is
-pub named : (a b : Condition) → condition_number a ≡ condition_number b → a ≡ b
-named a b e = sym (condition_back a) ∙ ap condition_of e ∙ condition_back b
 
 -- ---- a fresh entry
 
@@ -76,22 +57,22 @@ module _ (Z : Shape) (first : ℕ) (b : Bytes) (k : ℕ) (size : entry_at Z Z.m 
 
 -- ---- the verdict of a slot
 
-module _ (k used : ℕ) (entry : EntryState) where
+module _ (k used : ℕ) (entry : Option Intact) where
   -- what is said of the verdict of a slot whose record is good, and whose entry is not intact with its epoch
   abbrev FaultyIs : ℕ → Type 0
   FaultyIs v = (x : Entry) → entry ≡ entry_answer x → v ≡ verdict_of used k Faulty x
 
-  pub faulty_stale : {e size : ℕ} → entry ≡ Intact e size → FaultyIs 6
+  pub faulty_stale : {i : Intact} → entry ≡ Some i → FaultyIs 6
   unfolding verdict_of entry_answer
   faulty_stale h (intact f p) q = refl
   faulty_stale h (broken b) q = absurd (apart h q)
 
-  pub faulty_last : entry ≡ Broken → k + 1 ≡ used → FaultyIs 4
+  pub faulty_last : entry ≡ None → k + 1 ≡ used → FaultyIs 4
   unfolding verdict_of entry_answer
   faulty_last h l (intact f p) q = absurd (apart q h)
   faulty_last h l (broken b) q = sym (rw (eq-eqb (suc k) used (omega arith)))
 
-  pub faulty_damaged : entry ≡ Broken → ¬ (k + 1 ≡ used) → FaultyIs 3
+  pub faulty_damaged : entry ≡ None → ¬ (k + 1 ≡ used) → FaultyIs 3
   unfolding verdict_of entry_answer
   faulty_damaged h l (intact f p) q = absurd (apart q h)
   faulty_damaged h l (broken b) q = sym (rw (ne_eqb (suc k) used (λ z. l (omega arith))))
@@ -113,45 +94,28 @@ module _ (k used : ℕ) (x : Entry) where
   unfolding verdict_of
   unused_unfinished e l t = sym (rw (eq-eqb k used l, ← e, t))
 
-module _ (number k used : ℕ) (x : Entry) where
-  -- what is said of a slot's verdict when its condition, its entry and the end of the log are known
-  abbrev pub VerdictIs : ℕ → Type 0
-  VerdictIs v = (a : Condition) → number ≡ condition_number a → v ≡ verdict_of used k a x
-
-  -- it is known which condition the number is
-  pub verdict_by : (v : ℕ) (b : Condition) → number ≡ condition_number b → v ≡ verdict_of used k b x → VerdictIs v
-  verdict_by v b h q a e = q ∙ ap (λ (d : Condition). verdict_of used k d x) (named b a (sym h ∙ e))
-
-  pub verdict_none : 4 ≤ number → VerdictIs 0
-  unfolding verdict_of
-  verdict_none h Unused e = omega (arith, e)
-  verdict_none h Whole e = omega (arith, e)
-  verdict_none h RecordLost e = omega (arith, e)
-  verdict_none h Faulty e = omega (arith, e)
-  verdict_none h Lost e = refl
-  verdict_none h RecordOnly e = refl
-
-  pub verdict_same : number < 4 → ¬ (number ≡ 3) → ¬ (number ≡ 0) → VerdictIs number
-  unfolding verdict_of
-  verdict_same h l q Unused e = absurd (q e)
-  verdict_same h l q Whole e = e
-  verdict_same h l q RecordLost e = e
-  verdict_same h l q Faulty e = absurd (l e)
-  verdict_same h l q Lost e = omega (arith, e)
-  verdict_same h l q RecordOnly e = omega (arith, e)
+-- a verdict as a byte is its number
+pub verdict_byte : (v : Verdict) → tag_of the_type v ≡ verdict_number v
+verdict_byte verdict.Unused = refl
+verdict_byte verdict.Whole = refl
+verdict_byte verdict.RecordLost = refl
+verdict_byte verdict.Corrupt = refl
+verdict_byte verdict.Ambiguous = refl
+verdict_byte verdict.Partial = refl
+verdict_byte verdict.Stale = refl
 
 -- ---- the slots one after another
 
-module _ (m : ℕ) (i : Image) (used : ℕ) (cs : List ℕ) (s : Marked m i used cs) where
-  pub verdict_here : (k v : ℕ) → k < m → VerdictIs (get_or cs k 0) k used (i.entries k) v → v ≡ verdict_at m i k
-  unfolding verdict_at conditions_of
-  verdict_here k v h f =
-      f (condition_at i k) (taken_at m (λ k. condition_number (condition_at i k)) cs s.conditions_are k h) ∙ rw s.length_is
+module _ (m : ℕ) (i : Image) (used : ℕ) (slots : List Slot) (s : Marked m i used slots) where
+  pub verdict_here : (k : ℕ) {v : ℕ} → k < m → v ≡ verdict_of used k (slot_in slots k).condition (i.entries k) → v ≡ verdict_at m i k
+  unfolding verdict_at
+  verdict_here k h e =
+      e ∙ rw (taken_at m (slot_of i) slots (record { condition = Unused; epoch = 0 }) s.slots_are k h, s.length_is)
 
-pub verdicts_more : (m : ℕ) (i : Image) (used : ℕ) (cs : List ℕ) (k v : ℕ) (vs : List ℕ) → k < m → k < length vs
-    → VerdictIs (get_or cs k 0) k used (i.entries k) v → (Marked m i used cs → take k vs ≡ listed k (verdict_at m i))
-    → Marked m i used cs → take (k + 1) (set vs k v) ≡ listed (k + 1) (verdict_at m i)
-verdicts_more m i used cs k v vs h l f e s = list_more (verdict_at m i) k v vs l (e s) (verdict_here m i used cs s k v h f)
+pub verdicts_more : (m : ℕ) (i : Image) (used : ℕ) (slots : List Slot) (k v : ℕ) (vs : List ℕ) → k < m → k < length vs
+    → v ≡ verdict_of used k (slot_in slots k).condition (i.entries k) → (Marked m i used slots → take k vs ≡ listed k (verdict_at m i))
+    → Marked m i used slots → take (k + 1) (set vs k v) ≡ listed (k + 1) (verdict_at m i)
+verdicts_more m i used slots k v vs h l f e s = list_more (verdict_at m i) k v vs l (e s) (verdict_here m i used slots s k h f)
 
 pub verdicts_end : (m : ℕ) (i : Image) (k : ℕ) (vs : List ℕ) → k ≡ m → length vs ≤ k → take k vs ≡ listed k (verdict_at m i) → vs ≡ verdicts_of m i
 unfolding verdicts_of

@@ -18,7 +18,8 @@ use Rattle.record.proofs.LayoutLaws.{length_record}
 use Rattle.record.proofs.RecordLaws.{read_good, is_epoch_lem}
 use Rattle.image.specs.Image.{Image, index, image_size, record_at, first_in, decode_image, fresh_image}
 use Rattle.image.specs.SetSlot.{set_record}
-use Rattle.image.specs.View.{Whole, Faulty, condition, epoch_of, is_lost, condition_at, epoch_at, log_length, witness_refusal}
+use Rattle.image.specs.View.{condition, epoch_of, is_lost, condition_at, epoch_at, log_length, witness_refusal}
+use Rattle.image.specs.declared.condition.Condition.TheVariants.{Whole, Faulty}
 use Rattle.image.specs.Read.{epochs_of}
 use Rattle.image.specs.Append.{format_refusal}
 use Rattle.image.specs.Witness.{record_refusal, recorded, record_appended}

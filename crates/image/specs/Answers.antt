@@ -1,21 +1,15 @@
--- The answers of the calls about one image in document 01's numbers: a value, or a refusal by number. Each enum by its cases.
-use Rattle.std.specs.Prelude.{ℕ, suc, Bool, true, false, cond, List, eqb, length}
+-- The answers of the calls about one image in document 01's numbers: a value, or a refusal by number.
+use Rattle.std.specs.Prelude.{ℕ, suc, Bool, cond, List, eqb, length, Result, Ok, Err}
 use Rattle.slices.specs.Parts.{Bytes}
 use Rattle.record.specs.declared.Shape.{Shape}
-use Rattle.image.specs.Refusal.{unless_refused}
+use Rattle.image.specs.declared.Log.{Log}
+use Rattle.image.specs.declared.refusal.Refusal.{Refusal}
+use Rattle.image.specs.Refusal.{refusal_number, unless_refused}
 use Rattle.image.specs.Image.{first_in, decode_image}
 use Rattle.image.specs.View.{card_refusal, log_length}
 use Rattle.image.specs.Read.{lent_refusal, epochs_of, verdicts_of, has_payload}
 use Rattle.image.specs.Append.{format_refusal, append_refusal}
 use Rattle.image.specs.Witness.{epochs_refusal, record_refusal}
-use Rattle.image.specs.declared.FormatAnswer.{FormatAnswer}
-use Rattle.image.specs.declared.FormatAnswer.TheVariants as format
-use Rattle.image.specs.declared.ReadAnswer.{ReadAnswer}
-use Rattle.image.specs.declared.ReadAnswer.TheVariants as read
-use Rattle.image.specs.declared.AppendAnswer.{AppendAnswer}
-use Rattle.image.specs.declared.AppendAnswer.TheVariants as append
-use Rattle.image.specs.declared.PayloadAnswer.{PayloadAnswer}
-use Rattle.image.specs.declared.PayloadAnswer.TheVariants as payload
 
 -- a call's answer in numbers: refused by this number, or 01's value
 pub data Numbered (A : Type 0) : Type 0 where
@@ -26,26 +20,15 @@ pub data Numbered (A : Type 0) : Type 0 where
 unfoldable pub numbered : {A : Type 0} → ℕ → A → Numbered A
 numbered refusal v = cond (eqb refusal 0) (value v) (refused refusal)
 
--- formatting has no value
-abbrev pub format_numbers : FormatAnswer → Numbered (Unit {0})
-format_numbers format.Formatted = value tt
-format_numbers (format.Refused r) = refused r
+-- a call's answer by its refusal's number
+abbrev pub numbers : {A : Type 0} → Result A Refusal → Numbered A
+numbers (Ok v) = value v
+numbers (Err r) = refused (refusal_number r)
 
--- the log's length, and the index that it begins at
-abbrev pub read_numbers : ReadAnswer → Numbered (ℕ × ℕ)
-read_numbers (read.Log length first) = value (length, first)
-read_numbers (read.Refused r) = refused r
-
--- the number of the slot that was written
-abbrev pub append_numbers : AppendAnswer → Numbered ℕ
-append_numbers (append.Slot slot) = value slot
-append_numbers (append.Refused r) = refused r
-
--- whether there is a payload
-abbrev pub payload_numbers : PayloadAnswer → Numbered Bool
-payload_numbers payload.Present = value true
-payload_numbers payload.Absent = value false
-payload_numbers (payload.Refused r) = refused r
+-- of reading: the log's length, and the index that it begins at
+abbrev pub log_numbers : Result Log Refusal → Numbered (ℕ × ℕ)
+log_numbers (Ok log) = value (log.length, log.first)
+log_numbers (Err r) = refused (refusal_number r)
 
 -- a fresh image of replica c, of a log that begins at this index, in a buffer of so many bytes: the answer
 abbrev pub format_call_numbers : Shape → ℕ → ℕ → ℕ → Numbered (Unit {0})

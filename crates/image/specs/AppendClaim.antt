@@ -5,7 +5,8 @@ use Rattle.record.specs.declared.Shape.{Shape}
 use Rattle.record.specs.Layout.{is_witness}
 use Rattle.record.specs.Meaning.{blank}
 use Rattle.image.specs.Image.{Image, image_size, first_in, decode_image, fresh_image}
-use Rattle.image.specs.View.{Whole, condition_at, epoch_at, log_length, card_refusal}
+use Rattle.image.specs.View.{condition_at, epoch_at, log_length, card_refusal}
+use Rattle.image.specs.declared.condition.Condition.TheVariants.{Whole}
 use Rattle.image.specs.Verdict.{is_fresh, verdict_at}
 use Rattle.image.specs.Read.{has_payload, payload_of}
 use Rattle.image.specs.Append.{last_epoch, format_refusal, append_refusal, appended}

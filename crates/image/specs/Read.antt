@@ -7,7 +7,8 @@ use Rattle.record.specs.Layout.{entry_size}
 use Rattle.record.specs.Meaning.{entry_payload}
 use Rattle.image.specs.Refusal.{refuse, ◌else◌}
 use Rattle.image.specs.Image.{Image, decode_image, entry_at}
-use Rattle.image.specs.View.{card_refusal, epoch_at, condition_at, Condition, condition_number}
+use Rattle.image.specs.View.{card_refusal, epoch_at, condition_at, condition_number}
+use Rattle.image.specs.declared.condition.Condition.{Condition}
 use Rattle.image.specs.Verdict.{verdict_at}
 
 -- 13 if a lent buffer (epochs, verdicts) has the wrong length, after all else that applies

@@ -4,7 +4,21 @@ use Rattle.slices.specs.Same.{same}
 use Rattle.record.specs.Layout.{fresh_entry}
 use Rattle.record.specs.Meaning.{Entry, intact, broken}
 use Rattle.image.specs.Image.{Image}
-use Rattle.image.specs.View.{Condition, Unused, Whole, RecordLost, Faulty, Lost, RecordOnly, condition_at, log_length}
+use Rattle.image.specs.View.{condition_at, log_length}
+use Rattle.image.specs.declared.condition.Condition.{Condition}
+use Rattle.image.specs.declared.condition.Condition.TheVariants.{Unused, Whole, RecordLost, Faulty, Lost, RecordOnly}
+use Rattle.image.specs.declared.verdict.Verdict.{Verdict}
+use Rattle.image.specs.declared.verdict.Verdict.TheVariants as verdict
+
+-- a verdict's number
+abbrev pub verdict_number : Verdict → ℕ
+verdict_number verdict.Unused = 0
+verdict_number verdict.Whole = 1
+verdict_number verdict.RecordLost = 2
+verdict_number verdict.Corrupt = 3
+verdict_number verdict.Ambiguous = 4
+verdict_number verdict.Partial = 5
+verdict_number verdict.Stale = 6
 
 -- an entry of spaces only
 unfoldable pub is_fresh : Entry → Bool

@@ -7,12 +7,10 @@ use Rattle.record.specs.Layout.{is_witness}
 use Rattle.record.specs.Meaning.{Header, proper, improper, first_index, Record, good, blank, bad, Entry, intact, broken}
 use Rattle.image.specs.Refusal.{refuse, ◌else◌}
 use Rattle.image.specs.Image.{Image, image_size, decode_image}
+use Rattle.image.specs.declared.condition.Condition.{Condition}
+use Rattle.image.specs.declared.condition.Condition.TheVariants.{Unused, Whole, RecordLost, Faulty, Lost, RecordOnly}
 
--- a slot's condition, whatever its neighbours hold. `Lost` is refused by 6; `RecordOnly` is a used slot of a witness (02, Seven)
-pub data Condition : Type 0 where
-  Unused Whole RecordLost Faulty Lost RecordOnly : Condition
-
--- in code a condition is its number
+-- a condition's number: 0 to 2 as plan bytes and verdicts have them
 abbrev pub condition_number : Condition → ℕ
 condition_number Unused = 0
 condition_number Whole = 1
@@ -21,6 +19,7 @@ condition_number Faulty = 3
 condition_number Lost = 4
 condition_number RecordOnly = 5
 
+-- a slot's condition, whatever its neighbours hold. `Lost` is refused by 6; `RecordOnly` is a used slot of a witness (02, Seven)
 unfoldable pub condition : Record → Entry → Condition
 condition (good e) (intact f p) = cond (eqb e f) Whole Faulty
 condition (good e) (broken b) = Faulty
@@ -50,6 +49,9 @@ is_blank (bad b) = false
 unfoldable pub is_proper : Header → Bool
 is_proper (proper first) = true
 is_proper (improper b) = false
+
+unfoldable pub is_unused : Condition → Bool
+is_unused a = eqb (condition_number a) 0
 
 unfoldable pub is_lost : Condition → Bool
 is_lost a = eqb (condition_number a) 4

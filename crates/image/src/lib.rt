@@ -8,9 +8,9 @@ ghost use Rattle.image.specs.ReadingClaim.{ReadingClaim};
 ghost use Rattle.image.specs.AppendClaim.{AppendClaim};
 ghost use Rattle.image.specs.LastEntry.{LastEntry};
 
-pub mod condition; // condition.rt: the conditions of a slot by number
-pub mod verdict; // verdict.rt: the verdicts of a slot by number
-pub mod refusal; // refusal.rt: the refusals by number
+pub mod condition; // condition.rt: the conditions of a slot, and a slot as the scan finds it
+pub mod verdict; // verdict.rt: the verdicts of a slot
+pub mod refusal; // refusal.rt: the refusals
 
 // An image has at most so many slots, and a cluster from so many to so many replicas.
 pub const MAX_SLOTS: usize = 64;
@@ -19,33 +19,11 @@ pub const MIN_REPLICAS: usize = 3;
 
 pub const MAX_REPLICAS: usize = 7;
 
-// A fresh image was made, or the refusal.
-#[derive(Drop)]
-pub enum FormatAnswer {
-    Formatted,
-    Refused(u8),
-}
-
-// The log's length and the index of its first slot, or the refusal.
-#[derive(Drop)]
-pub enum ReadAnswer {
-    Log { length: usize, first: u32 },
-    Refused(u8),
-}
-
-// The number of the slot that was written, or the refusal.
-#[derive(Drop)]
-pub enum AppendAnswer {
-    Slot(usize),
-    Refused(u8),
-}
-
-// Whether there is a payload, or the refusal.
-#[derive(Drop)]
-pub enum PayloadAnswer {
-    Present,
-    Absent,
-    Refused(u8),
+// A log that was read: its length, and the index of its first slot.
+#[derive(Clone, Copy, PartialEq, Eq)]
+pub struct Log {
+    pub length: usize,
+    pub first: u32,
 }
 
 // The sizes of an image and of a cluster, and that taken apart they have every byte, as a theorem.

@@ -1,13 +1,15 @@
-// The verdicts of a slot by number, as reading hands them out: `verdictOf` of specs/Verdict.antt. A whole slot's are its condition's numbers.
-pub const UNUSED: u8 = 0;
-
-// Its record is good and its entry not intact: damaged, and at the last used slot doubtful.
-pub const CORRUPT: u8 = 3;
-
-pub const AMBIGUOUS: u8 = 4;
-
-// The first unused slot, if its entry is not fresh: unfinished.
-pub const PARTIAL: u8 = 5;
-
-// Its entry is intact with another epoch than its record's (document 02, Two).
-pub const STALE: u8 = 6;
+// The verdicts of a slot as reading hands them out, by document 01's numbers: `verdict_of` of specs/Verdict.antt says when it is which.
+#[derive(Clone, Copy, PartialEq, Eq)]
+pub enum Verdict {
+    Unused = 0,
+    Whole = 1,
+    // Whole, its record is lost.
+    RecordLost = 2,
+    // Its record is good and its entry not intact: damaged, and at the last used slot doubtful.
+    Corrupt = 3,
+    Ambiguous = 4,
+    // The first unused slot, if its entry is not fresh: unfinished.
+    Partial = 5,
+    // Its entry is intact with another epoch than its record's (document 02, Two).
+    Stale = 6,
+}

@@ -12,7 +12,7 @@ ghost use Rattle.record.specs.Seal.{seal_of, is_front};
 use locate::{
     BLANK_SIZE, ENTRY_SIZE, FRONT_SIZE, INDEX_AT, MAX_PAYLOAD, NUMBER_WIDTH, PAYLOAD_AT, SEAL_SIZE,
 };
-use record::{EntryState, RecordState};
+use record::{Intact, RecordState};
 
 // Epochs are 1 to this.
 const LAST_EPOCH: u64 = 4294967295;
@@ -23,11 +23,7 @@ fn is_sealed(s: &[u8], at: usize) -> bool
     ensures { result ≡ same (part s.now at 12) (seal_of (take at s.now)) }
 {
     let e = at + NUMBER_WIDTH;
-    if s[e] != b'\n' {
-        return false;
-    }
-    let sum = sum::checksum_of(&s[0..at]);
-    spell::holds_number(&s[at..e], sum as u64)
+    s[e] == b'\n' && spell::holds_number(&s[at..e], sum::checksum_of(&s[0..at]) as u64)
 }
 
 // Whether the front is the writer's for this index and epoch.
@@ -35,16 +31,11 @@ fn is_front(s: &[u8], index: u64, epoch: u64) -> bool
     requires { 22 ≤ length s.now }
     ensures { result ≡ is_front index epoch s.now }
 {
-    if epoch < 1 {
+    if epoch < 1 || LAST_EPOCH < epoch {
         return false;
     }
-    if LAST_EPOCH < epoch {
-        return false;
-    }
-    if !spell::holds_number(&s[0..INDEX_AT], epoch) {
-        return false;
-    }
-    spell::holds_number(&s[INDEX_AT..FRONT_SIZE], index)
+    spell::holds_number(&s[0..INDEX_AT], epoch)
+        && spell::holds_number(&s[INDEX_AT..FRONT_SIZE], index)
 }
 
 // Whether the record is the writer's for this index and epoch.
@@ -52,10 +43,7 @@ fn is_good(s: &[u8], index: u64, epoch: u64) -> bool
     requires { length s.now ≡ record_size }
     ensures { result ≡ is_good index epoch s.now }
 {
-    if !is_front(s, index, epoch) {
-        return false;
-    }
-    is_sealed(s, FRONT_SIZE)
+    is_front(s, index, epoch) && is_sealed(s, FRONT_SIZE)
 }
 
 // Whether a record is blank.
@@ -63,10 +51,7 @@ fn is_blank(s: &[u8]) -> bool
     requires { length s.now ≡ record_size }
     ensures { result ≡ same s.now blank_record }
 {
-    if s[BLANK_SIZE] != b'\n' {
-        return false;
-    }
-    copy::all_bytes(&s[0..BLANK_SIZE], b' ')
+    s[BLANK_SIZE] == b'\n' && copy::all_bytes(&s[0..BLANK_SIZE], b' ')
 }
 
 // Judges the record of an index: good with its epoch, blank, or bad.
@@ -95,10 +80,7 @@ fn is_intact(s: &[u8], index: u64, epoch: u64, size: usize) -> bool
     if !is_front(s, index, epoch) {
         return false;
     }
-    if !spell::holds_number(&s[FRONT_SIZE..PAYLOAD_AT], size as u64) {
-        return false;
-    }
-    is_closed(s, PAYLOAD_AT + size)
+    spell::holds_number(&s[FRONT_SIZE..PAYLOAD_AT], size as u64) && is_closed(s, PAYLOAD_AT + size)
 }
 
 // Whether the seal of what stands before `at`, and then nothing but spaces, stand at `at`.
@@ -106,25 +88,21 @@ fn is_closed(s: &[u8], at: usize) -> bool
     requires { (length s.now ≡ entry_size) × (at + 12 ≤ entry_size) }
     ensures { result ≡ same (drop at s.now) (seal_of (take at s.now) ++ replicate (entry_size - (at + 12)) 32) }
 {
-    if !is_sealed(s, at) {
-        return false;
-    }
-    let e = at + SEAL_SIZE;
-    copy::all_bytes(&s[e..ENTRY_SIZE], b' ')
+    is_sealed(s, at) && copy::all_bytes(&s[at + SEAL_SIZE..ENTRY_SIZE], b' ')
 }
 
-// Judges the entry of an index, given the part of the image that begins at its own start.
-pub fn judge_entry(s: &[u8], index: u64) -> EntryState
+// Judges the entry of an index, given the part of the image that begins at its own start: what it is if it is intact.
+pub fn judge_entry(s: &[u8], index: u64) -> Option<Intact>
     requires { length s.now ≡ entry_size }
     ensures { result ≡ entry_answer (read_entry index s.now) }
 {
     let epoch = spell::number_in(&s[0..INDEX_AT]);
     let size = spell::number_in(&s[FRONT_SIZE..PAYLOAD_AT]) as usize;
     if is_intact(s, index, epoch, size) {
-        return EntryState::Intact {
+        return Some(Intact {
             epoch: epoch as u32,
             size,
-        };
+        });
     }
-    EntryState::Broken
+    None
 }

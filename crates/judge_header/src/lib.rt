@@ -1,4 +1,4 @@
-// A header judged: the writer's, with the index of its first slot, or not.
+// A header judged: the index of its first slot, if it is the writer's.
 #![tactic(auto)]
 
 ghost use Rattle.std.specs.Prelude.{◌≡◌, length};
@@ -10,7 +10,7 @@ ghost use Rattle.record.specs.Judged.{header_answer};
 use locate::{
     FIRST_AT, FIRST_HEADER_SIZE, FIRST_INDEX, FIRST_SEAL_AT, gives_first, header_size, is_first,
 };
-use record::{HeaderState, Shape};
+use record::Shape;
 
 // The only index of a first slot that a header of this shape can give.
 fn first_in(s: &[u8], shape: Shape) -> u64
@@ -44,16 +44,16 @@ fn is_header(s: &[u8], shape: Shape, replica: usize, first: u64) -> bool
     is_written(s, &mut w[0..e], shape, replica, first as u32)
 }
 
-// Judges the header of a replica: the writer's, with the index of the first slot, or not.
-pub fn judge_header(s: &[u8], shape: Shape, replica: usize) -> HeaderState
+// Judges the header of a replica: the index of the first slot, if the header is the writer's.
+pub fn judge_header(s: &[u8], shape: Shape, replica: usize) -> Option<u32>
     ensures { result ≡ header_answer (read_header shape replica s.now) }
 {
     if s.len() != header_size(shape) {
-        return HeaderState::Improper;
+        return None;
     }
     let first = first_in(s, shape);
     if is_header(s, shape, replica, first) {
-        return HeaderState::Proper(first as u32);
+        return Some(first as u32);
     }
-    HeaderState::Improper
+    None
 }

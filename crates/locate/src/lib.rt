@@ -73,81 +73,67 @@ pub const LAST_INDEX: u64 = 4294967295;
 pub const SET_BITS: usize = 32;
 
 // Whether replica `replica` (from 1) is a witness, which stores records only (document 02, Seven). No number but a replica's is one.
+#[tactic(auto, using(record::proofs::WitnessLaws::witness_zero, record::proofs::WitnessLaws::witness_high, record::proofs::WitnessLaws::witness_bit))]
 pub fn is_witness(shape: Shape, replica: usize) -> bool
     ensures { result ≡ is_witness shape replica }
 {
-    if replica < 1 {
-        return false;
-    }
-    if SET_BITS < replica {
-        return false;
-    }
-    let c = replica - 1;
-    (shape.witnesses >> c) & 1 == 1
+    1 <= replica && replica <= SET_BITS && (shape.witnesses >> (replica - 1)) & 1 == 1
 }
 
 // Whether a header of this shape gives the index of the first slot.
+#[tactic(auto, unfolding(record::specs::Layout::gives_first))]
 pub fn gives_first(shape: Shape) -> bool
     ensures { result ≡ gives_first shape }
 {
-    if shape.edition == NEW_EDITION {
-        return true;
-    }
-    false
+    shape.edition == NEW_EDITION
 }
 
 // How many bytes the header of an image of this shape has.
+#[tactic(auto, unfolding(record::specs::Layout::header_size))]
 pub fn header_size(shape: Shape) -> usize
     ensures { result ≡ header_size shape }
 {
     if gives_first(shape) {
-        return FIRST_HEADER_SIZE;
+        FIRST_HEADER_SIZE
+    } else {
+        HEADER_SIZE
     }
-    HEADER_SIZE
 }
 
 // Whether a log of m slots may begin at that index: not at 0, and its last index is at most LAST_INDEX.
 fn has_room(m: usize, first: u64) -> bool
     ensures { result ≡ (leb 1 first && leb (first + (m - 1)) 4294967295) }
 {
-    if first < 1 {
-        return false;
-    }
-    if LAST_INDEX < first {
-        return false;
-    }
-    let room = LAST_INDEX - first + 1;
-    if room < m as u64 {
-        return false;
-    }
-    true
+    1 <= first && first <= LAST_INDEX && m as u64 <= LAST_INDEX - first + 1
 }
 
 // Whether a log may begin at that index. In the old edition it begins at 1.
+#[tactic(auto, unfolding(record::specs::Meaning::is_first))]
 pub fn is_first(shape: Shape, first: u64) -> bool
     ensures { result ≡ is_first shape first }
 {
     if gives_first(shape) {
-        return has_room(shape.m, first);
+        has_room(shape.m, first)
+    } else {
+        first == FIRST_INDEX
     }
-    if first != FIRST_INDEX {
-        return false;
-    }
-    true
 }
 
 // How many bytes the entries of replica `replica` (from 1) have. A witness has none.
+#[tactic(auto, unfolding(image::specs::Image::entries_size))]
 fn entries_size(shape: Shape, replica: usize) -> usize
     requires { shape.m ≤ 64 }
     ensures { result ≡ entries_size shape replica }
 {
     if is_witness(shape, replica) {
-        return 0;
+        0
+    } else {
+        ENTRY_SIZE * shape.m
     }
-    ENTRY_SIZE * shape.m
 }
 
 // How many bytes the image of replica `replica` (from 1) has.
+#[tactic(auto, using(record::proofs::LayoutLaws::header_size_high, image::proofs::DecodeLaws::entries_most), unfolding(image::specs::Image::image_size))]
 pub fn image_size(shape: Shape, replica: usize) -> usize
     requires { shape.m ≤ 64 }
     ensures { result ≡ image_size shape replica }
@@ -156,6 +142,7 @@ pub fn image_size(shape: Shape, replica: usize) -> usize
 }
 
 // Where the record of slot k begins in its image.
+#[tactic(auto, using(record::proofs::LayoutLaws::header_size_high), unfolding(image::specs::Image::record_at))]
 pub fn record_at(shape: Shape, k: usize) -> usize
     requires { k ≤ 64 }
     ensures { result ≡ record_at shape k }
@@ -164,6 +151,7 @@ pub fn record_at(shape: Shape, k: usize) -> usize
 }
 
 // Where the entry of slot k begins in its image, a card's.
+#[tactic(auto, using(record::proofs::LayoutLaws::header_size_high), unfolding(image::specs::Image::entry_at))]
 pub fn entry_at(shape: Shape, k: usize) -> usize
     requires { (shape.m ≤ 64) × (k ≤ 64) }
     ensures { result ≡ entry_at shape k }
@@ -177,10 +165,8 @@ pub fn image_at(shape: Shape, c: usize) -> usize
     ensures { result ≡ image_at shape c }
 {
     let mut at: usize = 0;
-    let mut d: usize = 0;
-    while d < c {
-        at = at + image_size(shape, d + 1);
-        d += 1;
+    for d in 0..c {
+        at += image_size(shape, d + 1);
     }
     at
 }
@@ -202,6 +188,7 @@ pub fn entry_in(shape: Shape, c: usize, k: usize) -> usize
 }
 
 // The index of slot k, of a log whose first slot has index `first`.
+#[tactic(auto, unfolding(image::specs::Image::index))]
 pub fn index_of(first: u32, k: usize) -> u64
     requires { k ≤ 64 }
     ensures { result ≡ index first k }

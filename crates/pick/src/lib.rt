@@ -16,6 +16,7 @@ use record::Shape;
 use recovery::NextStore;
 
 // Whether there is a store.
+#[tactic(auto, unfolding(protocol::specs::Recovery::is_some))]
 pub fn is_outstanding(store: NextStore) -> bool
     ensures { result ≡ is_some (store_of store) }
 {
@@ -38,18 +39,17 @@ pub fn followers_store(
         → ((j : ℕ) → j < from → is_some (due S (cluster_in S cluster.now) j) ≡ false)
         → store_of result ≡ followers_store S (cluster_in S cluster.now) }
 {
-    let mut c = from;
-    while c < shape.n {
+    for c in from..shape.n {
         let store = due_store(cluster, survey, shape, leader, c);
         if is_outstanding(store) {
             return store;
         }
-        c += 1;
     }
     NextStore::Nothing
 }
 
 // The first store of a ready plan: the leader's before the followers'.
+#[tactic(auto, using(recovery::proofs::FollowerLaws::or_leader, recovery::proofs::FollowerLaws::or_follower))]
 pub fn first_store(
     cluster: &[u8],
     survey: Survey,

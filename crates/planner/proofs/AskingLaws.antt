@@ -10,7 +10,9 @@ use Rattle.search.specs.Search.{one_if}
 use Rattle.slices.specs.Parts.{Bytes}
 use Rattle.slices.proofs.SameLaws.{and_off}
 use Rattle.record.specs.declared.Shape.{Shape}
-use Rattle.image.specs.View.{Condition, Unused, Whole, RecordLost, Faulty, Lost, RecordOnly, View, is_size, is_slots, is_edition, is_lost, view_of, seen_as, call_refusal, read_refusal}
+use Rattle.image.specs.View.{View, is_size, is_slots, is_edition, is_lost, view_of, seen_as, call_refusal, read_refusal}
+use Rattle.image.specs.declared.condition.Condition.{Condition}
+use Rattle.image.specs.declared.condition.Condition.TheVariants.{Unused, Whole, RecordLost, Faulty, Lost, RecordOnly}
 use Rattle.image.specs.Read.{is_whole}
 use Rattle.image.specs.Cluster.{image_at, image_part, decode}
 use Rattle.image.proofs.RefusalLaws.{else_next}

@@ -16,7 +16,7 @@ use Rattle.image.specs.View.{View, view_of, seen_as, is_replica}
 use Rattle.image.specs.Cluster.{decode}
 use Rattle.image.proofs.RefusalLaws.{refuse_zero, else_next, else_first, else_zero_l, else_zero_r}
 use Rattle.image.proofs.ViewLaws.{length_le}
-use Rattle.image.proofs.CallLaws.{slots_high, size_high, replica_low, replica_high, is_replica_lem}
+use Rattle.image.proofs.CallLaws.{slots_high, size_high}
 use Rattle.search.specs.Sets.{has}
 use Rattle.planner.specs.Setting.{Setting, setting_of, witness, views_of}
 use Rattle.planner.specs.Rules.{may_lead, same_firsts}
@@ -46,30 +46,8 @@ unfolding is_replica
 replica_below n leader q = omega (arith, leb-true 1 leader (and_left (leb 1 leader) (leb leader n) q), leb-true leader n (and_right (leb 1 leader) (leb leader n) q))
 
 module _ (readable witnesses n leader : ℕ) where
-  pub leader_low : leader < 1 → 12 ≡ leader_test readable witnesses n leader
-  unfolding leader_test refuse
-  leader_low h = rw (replica_low n leader h) refl
-
-  pub leader_high : n < leader → 12 ≡ leader_test readable witnesses n leader
-  unfolding leader_test refuse
-  leader_high h = rw (replica_high n leader h) refl
-
   pred_is : leader - 1 ≡ pred leader
   pred_is = omega arith
-
-  module _ (lo : 1 ≤ leader) (hi : leader ≤ n) where
-    pub leader_off : has readable (leader - 1) ≡ false → 12 ≡ leader_test readable witnesses n leader
-    unfolding leader_test refuse
-    leader_off e = rw (is_replica_lem n leader lo hi, sym pred_is, e) refl
-
-    module _ (on : has readable (leader - 1) ≡ true) where
-      pub leader_witness : has witnesses (leader - 1) ≡ true → 12 ≡ leader_test readable witnesses n leader
-      unfolding leader_test refuse
-      leader_witness e = rw (is_replica_lem n leader lo hi, sym pred_is, on, e) refl
-
-      pub leader_on : has witnesses (leader - 1) ≡ false → 0 ≡ leader_test readable witnesses n leader
-      unfolding leader_test refuse
-      leader_on e = rw (is_replica_lem n leader lo hi, sym pred_is, on, e) refl
 
 -- ---- all of them
 

@@ -1,20 +1,17 @@
 -- Where the logs begin: refusal 21, from the views and from a survey's numbers.
-use Prim.Native.Nat.{ℕ, zero, suc, ◌+◌, ◌<◌, ◌≤◌}
+use Prim.Native.Nat.{ℕ, zero, suc, ◌<◌}
 use mathlib.Core.Path.{◌≡◌, refl, sym, ◌∙◌}
 use mathlib.Core.Bool.{Bool, true, false, not, ◌||◌, true≢false}
 use mathlib.Core.List.{List}
 use native.Mathlib.Omega.{arith}
-use native.Mathlib.Decide.{ℕ_discrete}
 use lib.Dec.{eqb}
 use lib.ListN.{get_or}
 use borrow.Author.Tests.{eqb-true, eqb-false, eq-eqb, ne_eqb}
 use Rattle.slices.specs.Parts.{Bytes}
-use Rattle.slices.proofs.SameLaws.{clash}
 use Rattle.search.specs.Search.{all}
 use Rattle.search.proofs.SearchLaws.{all_elim, all_intro, all_off, all_cong}
 use Rattle.record.proofs.LayoutLaws.{gives_other}
 use Rattle.record.proofs.HeaderLaws.{read_first_one}
-use Rattle.image.specs.Refusal.{refuse}
 use Rattle.image.specs.Image.{first_in, decode_under, decode_image}
 use Rattle.image.specs.View.{View, view_of, seen_as}
 use Rattle.image.specs.Cluster.{first_at, decode}
@@ -115,36 +112,3 @@ module _ {n m : ℕ} {W : ℕ → View} {readable : ℕ} {firsts lengths conditi
   numbers_same =
       rw en (all_cong (λ c. not (has readable c) || eqb (get_or firsts c 0) (get_or firsts S.leader 0)) (λ c. not (W c).readable || eqb (W c).first (W S.leader).first) n
       (λ c l. same_test (s.readable_is c l) (s.first_is c l) (s.first_is S.leader lead reads)))
-
--- the replicas below c that are readable have the leader's first index
-pub record SameBelow (leader readable : ℕ) (firsts : List ℕ) (c : ℕ) : Type 0 where
-  pub same : (d : ℕ) → d < c → has readable d ≡ true → get_or firsts d 0 ≡ get_or firsts leader 0
-
-pub below_none : (leader readable : ℕ) (firsts : List ℕ) → SameBelow leader readable firsts 0
-below_none leader readable firsts = record { same = λ d l. absurd (omega arith) }
-
-module _ {leader readable : ℕ} {firsts : List ℕ} (c : ℕ) (s : SameBelow leader readable firsts c) where
-  pub below_away : has readable c ≡ false → SameBelow leader readable firsts (c + 1)
-  below_away off = record { same = λ d l on. go d l on (ℕ_discrete d c) }
-    where
-      go : (d : ℕ) → d < c + 1 → has readable d ≡ true → Dec (d ≡ c) → get_or firsts d 0 ≡ get_or firsts leader 0
-      go d l on (yes q) = absurd (clash (rw q at on) off)
-      go d l on (no q) = s.same d (omega arith) on
-
-  pub below_same : get_or firsts c 0 ≡ get_or firsts leader 0 → SameBelow leader readable firsts (c + 1)
-  below_same e = record { same = λ d l on. go d l on (ℕ_discrete d c) }
-    where
-      go : (d : ℕ) → d < c + 1 → has readable d ≡ true → Dec (d ≡ c) → get_or firsts d 0 ≡ get_or firsts leader 0
-      go d l on (yes q) = rw q e
-      go d l on (no q) = s.same d (omega arith) on
-
-  pub below_all : (n : ℕ) → c ≤ n → n ≤ c → 0 ≡ refuse 21 (not (same_numbers n leader readable firsts))
-  unfolding same_numbers refuse
-  below_all n h g =
-      rw (all_intro (λ d. not (has readable d) || eqb (get_or firsts d 0) (get_or firsts leader 0)) n (λ d l. passes (has readable d) (get_or firsts d 0) (get_or firsts leader 0) (s.same d (omega arith)))) refl
-
-pub other_first : (n leader readable : ℕ) (firsts : List ℕ) (c : ℕ) → c < n → has readable c ≡ true → ¬ (get_or firsts c 0 ≡ get_or firsts leader 0)
-    → 21 ≡ refuse 21 (not (same_numbers n leader readable firsts))
-unfolding same_numbers refuse
-other_first n leader readable firsts c l on f =
-    rw (all_off (λ d. not (has readable d) || eqb (get_or firsts d 0) (get_or firsts leader 0)) n c l (fails (has readable c) (get_or firsts c 0) (get_or firsts leader 0) on f)) refl

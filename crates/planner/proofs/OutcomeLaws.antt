@@ -18,7 +18,7 @@ use Rattle.image.specs.Answers.{value}
 use Rattle.image.proofs.CallLaws.{size_high}
 use Rattle.search.specs.Sets.{has}
 use Rattle.planner.specs.Setting.{Setting, setting_of}
-use Rattle.planner.specs.Rules.{Refused, Waiting, Ready, answer, end, first_waiting, may_lead, same_firsts}
+use Rattle.planner.specs.Rules.{Waiting, Ready, answer, end, first_waiting, may_lead, same_firsts}
 use Rattle.planner.specs.Plan.{views_in, plan_bytes, cluster_refusal, lent_refusal, plan_refusal}
 use Rattle.planner.specs.declared.PlanAnswer.{PlanAnswer}
 use Rattle.planner.specs.declared.PlanAnswer.TheVariants as plan

@@ -12,7 +12,9 @@ use borrow.Author.Tests.{eq-eqb, ne_eqb, lt-ltb, le-ltb}
 use Rattle.search.specs.Search.{lowest, listed}
 use Rattle.search.proofs.SearchLaws.{lowest_passes, lowest_cong}
 use Rattle.search.proofs.ListedLaws.{length_listed, get_d_listed, listed_ext, listed_cong}
-use Rattle.image.specs.View.{Condition, Unused, Whole, RecordLost, Faulty, Lost, RecordOnly, View}
+use Rattle.image.specs.View.{View}
+use Rattle.image.specs.declared.condition.Condition.{Condition}
+use Rattle.image.specs.declared.condition.Condition.TheVariants.{Unused, Whole, RecordLost, Faulty, Lost, RecordOnly}
 use Rattle.image.specs.View.{condition_number}
 use Rattle.planner.specs.Setting.{Setting}
 use Rattle.planner.specs.Rules.{is_truncate, is_wait, Rule, Keep, Fetch, Truncate, Wait, rule, donor, end, first_waiting}

@@ -49,7 +49,7 @@ donor_is S W k d = lowest_is (have S W k) S.shape.n d
 pub walked_none : (S : Setting) (W : ℕ → View) (bytes : List ℕ) → length bytes ≡ 64 → ((j : ℕ) → get_or bytes j 0 ≡ 0) → Walked S W bytes 0
 walked_none S W bytes n z = record { sized = n; standing = λ j l. absurd (omega arith); passed = λ j l. absurd (omega arith); ahead = λ j l. z j }
 
-walked_more : (S : Setting) (W : ℕ → View) {bytes : List ℕ} {x : ℕ} (k : ℕ) → Walked S W bytes k → k < 64 → is_truncate (rule S W k) ≡ false → x ≡ slot_byte S W k → Walked S W (set bytes k x) (k + 1)
+pub walked_more : (S : Setting) (W : ℕ → View) {bytes : List ℕ} {x : ℕ} (k : ℕ) → Walked S W bytes k → k < 64 → is_truncate (rule S W k) ≡ false → x ≡ slot_byte S W k → Walked S W (set bytes k x) (k + 1)
 walked_more S W {bytes} {x} k w h t e = record {
   sized = length-set bytes k x ∙ w.sized;
   standing = λ j l. stand j (ℕ_discrete j k) l;
@@ -66,63 +66,54 @@ walked_more S W {bytes} {x} k w h t e = record {
     byte j (no q) l = get_or-set_other bytes k j x 0 q ∙ w.passed j (omega arith)
 
 -- the walk ends at the lowest truncated slot, or behind the log
-walked_end : (S : Setting) (W : ℕ → View) {bytes : List ℕ} (k : ℕ) → Walked S W bytes k → k ≤ (W S.leader).length → (k < (W S.leader).length → is_truncate (rule S W k) ≡ true) → k ≡ end S W
+pub walked_end : (S : Setting) (W : ℕ → View) {bytes : List ℕ} (k : ℕ) → Walked S W bytes k → k ≤ (W S.leader).length → (k < (W S.leader).length → is_truncate (rule S W k) ≡ true) → k ≡ end S W
 unfolding end
 walked_end S W k w h t = sym (lowest_is (λ j. is_truncate (rule S W j)) (W S.leader).length k h w.standing t)
 
--- ---- one turn of it, and its end, over a survey's numbers
+-- ---- a slot's byte, over a survey's numbers
 
-module _ (n leader l readable : ℕ) (conditions epochs : List ℕ) (k : ℕ) {bytes : List ℕ} (w : Walked (survey_setting n leader) (survey_views l readable conditions epochs) bytes k) where
-  pub turn_kept : {x : ℕ} → k < 64 → (get_or conditions (leader * 64 + k) 0 ≡ 3 → ⊥) → x ≡ kept_byte (condition_from (get_or conditions (leader * 64 + k) 0))
-      → Walked (survey_setting n leader) (survey_views l readable conditions epochs) (set bytes k x) (k + 1)
+module _ (n leader l readable : ℕ) (conditions epochs : List ℕ) (k : ℕ) where
+  abbrev S : Setting
+  S = survey_setting n leader
+
+  abbrev W : ℕ → View
+  W = survey_views l readable conditions epochs
+
+  pub kept_slot : {x : ℕ} → (get_or conditions (leader * 64 + k) 0 ≡ 3 → ⊥) → x ≡ kept_byte (condition_from (get_or conditions (leader * 64 + k) 0))
+      → (is_truncate (rule S W k) ≡ false) × (x ≡ slot_byte S W k)
   unfolding survey_setting survey_views slot_byte rule_byte is_truncate
-  turn_kept h f e =
-      let z : is_faulty (condition_from (get_or conditions (leader * 64 + k) 0)) ≡ false = faulty_number (get_or conditions (leader * 64 + k) 0) ∙ ne_eqb _ _ f in
-      let r = keeps (survey_setting n leader) (survey_views l readable conditions epochs) k z in
-      walked_more (survey_setting n leader) (survey_views l readable conditions epochs) k w h (rw r refl) (rw r e)
+  kept_slot f e =
+      let r = keeps S W k (faulty_number (get_or conditions (leader * 64 + k) 0) ∙ ne_eqb _ _ f) in
+      (rw r refl, rw r e)
 
   module _ (f : get_or conditions (leader * 64 + k) 0 ≡ 3) where
     faulty_is : is_faulty (condition_from (get_or conditions (leader * 64 + k) 0)) ≡ true
     faulty_is = faulty_number (get_or conditions (leader * 64 + k) 0) ∙ eq-eqb _ _ f
 
-    pub turn_fetch : {x d : ℕ} (c : ℕ) → k < 64 → c < n → ((j : ℕ) → j < c → have (survey_setting n leader) (survey_views l readable conditions epochs) k j ≡ false)
-        → have (survey_setting n leader) (survey_views l readable conditions epochs) k c ≡ true → d ≡ c → x ≡ cond (ltb d n) (11 + d) 3
-        → Walked (survey_setting n leader) (survey_views l readable conditions epochs) (set bytes k x) (k + 1)
+    pub fetched_slot : {x : ℕ} (c : ℕ) → c < n → (have S W k c ≡ true) × ((j : ℕ) → j < c → have S W k j ≡ false) → x ≡ 11 + c
+        → (is_truncate (rule S W k) ≡ false) × (x ≡ slot_byte S W k)
     unfolding survey_setting survey_views slot_byte rule_byte is_truncate
-    turn_fetch c h b none here q e =
-        let S : Setting = survey_setting n leader in
-        let U : ℕ → View = survey_views l readable conditions epochs in
-        let z : donor S U k ≡ c = donor_is S U k c (omega arith) none (λ _. here) in
-        let r = fetches S U k faulty_is c z b in
-        walked_more S U k w h (rw r refl) (rw (r, z) (e ∙ rw (q, lt-ltb c n b) (omega arith)))
+    fetched_slot c b h e =
+        let z : donor S W k ≡ c = donor_is S W k c (omega arith) h.1 (λ _. h.0) in
+        let r = fetches S W k faulty_is c z b in
+        (rw r refl, rw (r, z) (omega arith))
 
-    module _ (none : (j : ℕ) → j < n → have (survey_setting n leader) (survey_views l readable conditions epochs) k j ≡ false) where
-      alone : rule (survey_setting n leader) (survey_views l readable conditions epochs) k
-          ≡ cond (may_truncate n (count (dont_have (survey_setting n leader) (survey_views l readable conditions epochs) k) n)) Truncate Wait
+    module _ (none : (j : ℕ) → j < n → have S W k j ≡ false) where
+      alone : rule S W k ≡ cond (may_truncate n (count (dont_have S W k) n)) Truncate Wait
       unfolding survey_setting survey_views
-      alone =
-          let S : Setting = survey_setting n leader in
-          let U : ℕ → View = survey_views l readable conditions epochs in
-          no_donor S U k faulty_is (donor_is S U k n (omega arith) none (λ b. absurd (omega arith)))
+      alone = no_donor S W k faulty_is (donor_is S W k n (omega arith) none (λ b. absurd (omega arith)))
 
-      pub turn_wait : {x d : ℕ} → k < 64 → may_truncate n (count (dont_have (survey_setting n leader) (survey_views l readable conditions epochs) k) n) ≡ false
-          → d ≡ n → x ≡ cond (ltb d n) (11 + d) 3 → Walked (survey_setting n leader) (survey_views l readable conditions epochs) (set bytes k x) (k + 1)
+      pub waiting_slot : {x : ℕ} → may_truncate n (count (dont_have S W k) n) ≡ false → x ≡ 3 → (is_truncate (rule S W k) ≡ false) × (x ≡ slot_byte S W k)
       unfolding slot_byte rule_byte is_truncate
-      turn_wait h t q e =
+      waiting_slot t e =
           let r = alone in
-          walked_more (survey_setting n leader) (survey_views l readable conditions epochs) k w h (rw (r, t) refl)
-          (rw (r, t) (e ∙ rw (q, le-ltb n n (omega arith)) refl))
+          (rw (r, t) refl, rw (r, t) e)
 
-      pub stops_at : k < l → may_truncate n (count (dont_have (survey_setting n leader) (survey_views l readable conditions epochs) k) n) ≡ true
-          → k ≡ end (survey_setting n leader) (survey_views l readable conditions epochs)
-      unfolding survey_setting survey_views is_truncate
-      stops_at h t =
+      pub truncated_slot : may_truncate n (count (dont_have S W k) n) ≡ true → is_truncate (rule S W k) ≡ true
+      unfolding is_truncate
+      truncated_slot t =
           let r = alone in
-          walked_end (survey_setting n leader) (survey_views l readable conditions epochs) k w (omega arith) (λ _. rw (r, t) refl)
-
-  pub stops_behind : k ≤ l → l ≤ k → k ≡ end (survey_setting n leader) (survey_views l readable conditions epochs)
-  unfolding survey_setting survey_views
-  stops_behind h g = walked_end (survey_setting n leader) (survey_views l readable conditions epochs) k w h (λ b. absurd (omega arith))
+          rw (r, t) refl
 
 pub zero_at : (n j : ℕ) → ◌≡◌ {A = ℕ} (get_or (replicate n 0) j 0) 0
 zero_at zero j = refl

@@ -1,14 +1,16 @@
 -- The survey of a cluster, replica by replica.
 use Prim.Native.Nat.{ℕ, suc, ◌+◌, ◌*◌, ◌-◌, ◌<◌, ◌≤◌}
-use mathlib.Core.Path.{◌≡◌, refl, ◌∙◌, ap, subst}
+use mathlib.Core.Path.{◌≡◌, refl, sym, ◌∙◌, ap, subst}
 use mathlib.Core.Bool.{Bool, true, false, not}
 use mathlib.Core.List.{List}
 use native.Mathlib.Omega.{arith}
 use native.Mathlib.Decide.{ℕ_discrete}
 use native.Mathlib.Numerals.{add-one}
 use lib.Dec.{eqb}
+use Rattle.std.specs.Prelude.{Result, Ok, Err, IfOk}
 use lib.ListN.{length, get_or, set, take, drop, length-set}
 use lib.Seq.{get_or-set_same, get_or-set_other}
+use denote.Enum.Declared.{tag_of}
 use borrow.Author.Tests.{eq-eqb, ne_eqb}
 use Rattle.slices.specs.Parts.{Bytes}
 use Rattle.slices.proofs.PartLaws.{length_part}
@@ -17,9 +19,16 @@ use Rattle.slices.proofs.SameLaws.{and_off, clash}
 use Rattle.record.specs.declared.Shape.{Shape}
 use Rattle.record.specs.Layout.{is_witness}
 use Rattle.image.specs.Image.{Image, image_size, decode_image}
-use Rattle.image.specs.View.{View, view_of, condition_as, seen_as, image_refusal, Condition, Unused, Whole, RecordLost, Faulty, Lost, RecordOnly, condition_at, epoch_at}
+use Rattle.image.specs.View.{View, view_of, condition_as, seen_as, image_refusal, condition_at}
+use Rattle.image.specs.contracts.condition.Condition.{the_type}
+use Rattle.image.specs.declared.condition.Condition.{Condition}
+use Rattle.image.specs.declared.condition.Condition.TheVariants.{Unused, Whole, RecordLost, Faulty, Lost, RecordOnly}
 use Rattle.image.specs.View.{condition_number}
-use Rattle.image.specs.Seen.{Seen, conditions_of}
+use Rattle.image.specs.declared.condition.Slot.{Slot}
+use Rattle.image.specs.declared.refusal.Refusal.{Refusal}
+use Rattle.image.specs.declared.refusal.Refusal.TheVariants.{SlotCount, ReplicaCount, BufferLength, Header, UsedAfterBlank, BothLost, EpochFalls, AppendEpoch, AppendPayload, AppendFull, Present, Leader, LentLength, CommandLine, FirstIndex, FirstDiffers, Witnesses}
+use Rattle.image.specs.Refusal.{refusal_number, refusal_of}
+use Rattle.image.specs.Seen.{slot_of, slot_in, Seen}
 use Rattle.image.specs.Cluster.{image_at, image_part, decode}
 use Rattle.image.proofs.ClusterLaws.{image_fits}
 use Rattle.image.proofs.ScannedLaws.{taken_at}
@@ -49,11 +58,13 @@ module _ (Z : Shape) (c : ℕ) (b : Bytes) (h : c < Z.n) (len : length b ≡ ima
     unfolding decode
     lent_is = rw (part_is, add-one) refl
 
-    pub view_there : {r first l : ℕ} {cs es : List ℕ}
-        → (r ≡ image_refusal Z.m (decode_image Z (c + 1) (take (start + size - start) (drop start b))))
-        × (r ≡ 0 → Seen Z.m (decode_image Z (c + 1) (take (start + size - start) (drop start b))) first l cs es)
-        → (r ≡ image_refusal Z.m (decode Z b c)) × (r ≡ 0 → Seen Z.m (decode Z b c) first l cs es)
-    view_there {r} {first} {l} {cs} {es} p = subst (λ (i : Image). (r ≡ image_refusal Z.m i) × (r ≡ 0 → Seen Z.m i first l cs es)) lent_is p
+    -- what is said of the image as it was lent is so of the cluster's
+    pub view_there : {V : Type 0} (first len : V → ℕ) (slots : V → List Slot) (r : Result V Refusal)
+        → refusal_of r ≡ image_refusal Z.m (decode_image Z (c + 1) (take (start + size - start) (drop start b)))
+        → IfOk r (λ v. Seen Z.m (decode_image Z (c + 1) (take (start + size - start) (drop start b))) (first v) (len v) (slots v))
+        → (refusal_of r ≡ image_refusal Z.m (decode Z b c)) × IfOk r (λ v. Seen Z.m (decode Z b c) (first v) (len v) (slots v))
+    view_there first len slots r e s =
+        subst (λ (i : Image). (refusal_of r ≡ image_refusal Z.m i) × IfOk r (λ v. Seen Z.m i (first v) (len v) (slots v))) lent_is (e, s)
 
 -- ---- copied slots
 
@@ -177,6 +188,15 @@ number_as_lem true Faulty = refl
 number_as_lem true Lost = refl
 number_as_lem true RecordOnly = refl
 
+-- a condition as a byte is its number
+pub condition_byte : (a : Condition) → tag_of the_type a ≡ condition_number a
+condition_byte Unused = refl
+condition_byte Whole = refl
+condition_byte RecordLost = refl
+condition_byte Faulty = refl
+condition_byte Lost = refl
+condition_byte RecordOnly = refl
+
 -- how the code tells
 pub number_card : {w : Bool} (x : ℕ) → w ≡ false → x ≡ number_as w x
 unfolding number_as
@@ -194,6 +214,32 @@ pub number_used : {w : Bool} {r : ℕ} (x : ℕ) → r ≡ 5 → w ≡ true → 
 unfolding number_as
 number_used x q e a b = rw (e, ne_eqb x 0 a, ne_eqb x 4 b) q
 
+-- an image that is not refused, and one that is
+pub not_refused : {V : Type 0} {r : Result V Refusal} {v : V} {n : ℕ} → refusal_of r ≡ n → r ≡ Ok v → n ≡ 0
+not_refused e q = sym (rw q at e)
+
+number_above : (x : Refusal) → refusal_number x ≡ 0 → ⊥
+number_above SlotCount e = omega (arith, e)
+number_above ReplicaCount e = omega (arith, e)
+number_above BufferLength e = omega (arith, e)
+number_above Header e = omega (arith, e)
+number_above UsedAfterBlank e = omega (arith, e)
+number_above BothLost e = omega (arith, e)
+number_above EpochFalls e = omega (arith, e)
+number_above AppendEpoch e = omega (arith, e)
+number_above AppendPayload e = omega (arith, e)
+number_above AppendFull e = omega (arith, e)
+number_above Present e = omega (arith, e)
+number_above Leader e = omega (arith, e)
+number_above LentLength e = omega (arith, e)
+number_above CommandLine e = omega (arith, e)
+number_above FirstIndex e = omega (arith, e)
+number_above FirstDiffers e = omega (arith, e)
+number_above Witnesses e = omega (arith, e)
+
+pub is_refused : {V : Type 0} {r : Result V Refusal} {x : Refusal} {n : ℕ} → refusal_of r ≡ n → r ≡ Err x → n ≡ 0 → ⊥
+is_refused {x = x} e q z = number_above x (rw (q, z) at e)
+
 module _ (Z : Shape) (present : ℕ) (b : Bytes) (c : ℕ) where
   pub absent_off : has present c ≡ false → (views_in (setting_of Z 0 present) b c).readable ≡ false
   unfolding views_in views_of seen_as view_of setting_of
@@ -204,18 +250,21 @@ module _ (Z : Shape) (present : ℕ) (b : Bytes) (c : ℕ) where
   refused_off e = rw (ne_eqb (image_refusal Z.m (decode Z b c)) 0 e) (and_off (has present c))
 
   -- f and l are what the code keeps of the view
-  pub seen_more : {readable r first len f l : ℕ} {firsts lengths conditions epochs seen-conditions seen_epochs conditions' epochs' : List ℕ} {w : Bool} {number : ℕ} → w ≡ is_witness Z number → number ≡ c + 1
+  pub seen_more : {readable r first len f l : ℕ} {firsts lengths conditions epochs : List ℕ} {slots : List Slot} {conditions' epochs' : List ℕ} {w : Bool} {number : ℕ} → w ≡ is_witness Z number → number ≡ c + 1
       → Partly Z.m (views_in (setting_of Z 0 present) b) readable firsts lengths conditions epochs c → c < 7 → Z.m ≤ 64 → has present c ≡ true → image_refusal Z.m (decode Z b c) ≡ 0
-      → Seen Z.m (decode Z b c) first len seen-conditions seen_epochs → Copied c conditions (λ k. number_as w (get_or seen-conditions k 0)) conditions' 64 → Copied c epochs (λ k. get_or seen_epochs k 0) epochs' 64 → r ≡ inserted readable c
+      → Seen Z.m (decode Z b c) first len slots → Copied c conditions (λ k. number_as w (condition_number (slot_in slots k).condition)) conditions' 64 → Copied c epochs (λ k. (slot_in slots k).epoch) epochs' 64 → r ≡ inserted readable c
       → f ≡ first → l ≡ len → Partly Z.m (views_in (setting_of Z 0 present) b) r (set firsts c f) (set lengths c l) conditions' epochs' (c + 1)
-  unfolding views_in views_of seen_as view_of setting_of conditions_of
-  seen_more {readable} {r} {first} {len} {f} {l} {firsts} {lengths} {conditions} {epochs} {seen-conditions} {seen_epochs} {w = w} {number = number} u num p c7 m64 on ok s x y q fs ls =
+  unfolding views_in views_of seen_as view_of setting_of
+  seen_more {readable} {r} {first} {len} {f} {l} {firsts} {lengths} {conditions} {epochs} {slots} {w = w} {number = number} u num p c7 m64 on ok s x y q fs ls =
       let v : w ≡ is_witness Z (suc c) = rw (num, add-one) at u in
       rw (q, fs, ls) (partly_more c first len p c7 m64 (rw (on, eq-eqb _ _ ok) refl) s.first_is s.length_is
-      (λ k h. ap (number_as w) (taken_at Z.m (λ k. condition_number (condition_at (decode Z b c) k)) seen-conditions s.conditions_are k h)
+      (λ k h. ap (λ (t : Slot). number_as w (condition_number t.condition)) (there s k h)
       ∙ number_as_lem w (condition_at (decode Z b c) k)
       ∙ ap (λ (t : Bool). condition_number (condition_as t (condition_at (decode Z b c) k))) v)
-      (taken_at Z.m (epoch_at (decode Z b c)) seen_epochs s.epochs_are) x y)
+      (λ k h. ap (λ (t : Slot). t.epoch) (there s k h)) x y)
+    where
+      there : Seen Z.m (decode Z b c) first len slots → (k : ℕ) → k < Z.m → slot_in slots k ≡ slot_of (decode Z b c) k
+      there s k h = taken_at Z.m (slot_of (decode Z b c)) slots _ s.slots_are k h
 
 -- the leader makes no difference
 pub surveyed_any : (Z : Shape) (present : ℕ) (b : Bytes) {readable : ℕ} {firsts lengths conditions epochs : List ℕ}

@@ -1,5 +1,5 @@
 -- Laws of sets of replicas as words.
-use Prim.Native.Nat.{ℕ, zero, suc, ◌+◌, ◌*◌, ◌-◌, ◌/◌, ◌%◌, ◌^◌, ◌<◌, ◌≤◌}
+use Prim.Native.Nat.{ℕ, zero, suc, ◌+◌, ◌*◌, ◌-◌, ◌/◌, ◌%◌, ◌^◌, ◌<◌}
 use mathlib.Core.Bool.{Bool, true, false, cond}
 use mathlib.Core.Path.{◌≡◌, refl, sym}
 use mathlib.Core.Logic.{⊎_elim}
@@ -97,9 +97,6 @@ has_next p n = rw (div-eq_of_lt (set_lt p n)) refl
 pub set_none : (p : ℕ → Bool) → 0 ≡ set_of p 0
 unfolding set_of
 set_none p = refl
-
-pub set_end : (p : ℕ → Bool) (n c : ℕ) {w : ℕ} → c ≤ n → n ≤ c → w ≡ set_of p c → w ≡ set_of p n
-set_end p n c h g e = let q : n ≡ c = omega arith in rw q e
 
 module _ (p : ℕ → Bool) (k : ℕ) {w : ℕ} (e : w ≡ set_of p k) where
   pub set_in : p k ≡ true → inserted w k ≡ set_of p (k + 1)

@@ -1,15 +1,14 @@
 -- Refusals 1, 2, 3, 11 and 22: the numbers, the sets and the cluster's length.
 use Prim.Native.Nat.{ℕ, ◌/◌, ◌^◌, ◌≤◌}
-use mathlib.Core.Path.{◌≡◌, refl, sym, ◌∙◌}
+use mathlib.Core.Path.{◌≡◌, refl}
 use mathlib.Core.Bool.{Bool, true, false, ◌&&◌}
 use native.Mathlib.Omega.{arith}
 use native.Mathlib.Nat.{div-eq_of_lt, div-lt_iff_lt-mul, one-mul}
 use lib.Pow.{pow_pos}
-use lib.Dec.{eqb, ltb}
-use borrow.Author.Tests.{ltb-true, lt-ltb, eq-eqb, ne_eqb, eqb-true, not-false}
-use Rattle.slices.proofs.SameLaws.{and_left, and_right, and_off}
+use lib.Dec.{ltb}
+use borrow.Author.Tests.{ltb-true, lt-ltb, eqb-true, not-false}
+use Rattle.slices.proofs.SameLaws.{and_left, and_right}
 use Rattle.record.specs.declared.Shape.{Shape}
-use Rattle.image.specs.Refusal.{refuse, ◌else◌}
 use Rattle.image.specs.View.{is_size, is_slots, is_edition}
 use Rattle.image.specs.Cluster.{image_at}
 use Rattle.image.proofs.RefusalLaws.{refuse_zero, else_zero_l, else_zero_r}
@@ -31,41 +30,6 @@ unshifted n present e =
     lt-ltb present (2 ^ n) (rw one-mul at ((div-lt_iff_lt-mul {k = 2 ^ n} {x = present} {y = 1} (pow_pos n)).0 (omega (arith, e))))
 
 module _ (Z : Shape) (present size : ℕ) where
-  pub shape_slots : is_slots Z.m ≡ false → 1 ≡ shape_refusal Z present size
-  unfolding shape_refusal refuse ◌else◌
-  shape_slots e = rw e refl
-
-  module _ (s : is_slots Z.m ≡ true) where
-    pub shape_size : is_size Z.n ≡ false → 2 ≡ shape_refusal Z present size
-    unfolding shape_refusal refuse ◌else◌
-    shape_size e = rw (s, e) refl
-
-    pub shape_edition : is_edition Z.edition ≡ false → 2 ≡ shape_refusal Z present size
-    unfolding shape_refusal refuse ◌else◌
-    shape_edition e = rw (s, e, and_off (is_size Z.n)) refl
-
-    module _ (z : is_size Z.n ≡ true) (d : is_edition Z.edition ≡ true) {all : ℕ} (a : all ≡ image_at Z Z.n) where
-      pub shape_bytes : (size ≡ all → ⊥) → 3 ≡ shape_refusal Z present size
-      unfolding shape_refusal refuse ◌else◌
-      shape_bytes e = rw (s, z, d, ne_eqb size (image_at Z Z.n) (λ q. e (q ∙ sym a))) refl
-
-      module _ (b : size ≡ all) where
-        sized : eqb size (image_at Z Z.n) ≡ true
-        sized = eq-eqb size (image_at Z Z.n) (b ∙ a)
-
-        pub shape_set : ltb present (2 ^ Z.n) ≡ false → 11 ≡ shape_refusal Z present size
-        unfolding shape_refusal refuse ◌else◌
-        shape_set e = rw (s, z, d, sized, e) refl
-
-        module _ (p : ltb present (2 ^ Z.n) ≡ true) where
-          pub shape_witnesses : ltb Z.witnesses (2 ^ Z.n) ≡ false → 22 ≡ shape_refusal Z present size
-          unfolding shape_refusal refuse ◌else◌
-          shape_witnesses e = rw (s, z, d, sized, p, e) refl
-
-          pub shape_none : ltb Z.witnesses (2 ^ Z.n) ≡ true → 0 ≡ shape_refusal Z present size
-          unfolding shape_refusal refuse ◌else◌
-          shape_none e = rw (s, z, d, sized, p, e) refl
-
   module _ (r : shape_refusal Z present size ≡ 0) where
     pub shaped_slots : is_slots Z.m ≡ true
     unfolding shape_refusal

@@ -5,7 +5,9 @@ use mathlib.Core.Bool.{Bool, true, false, cond, ◌&&◌, ◌||◌}
 use lib.Dec.{eqb, leb}
 use Rattle.image.specs.Image.{Image}
 use Rattle.record.specs.Meaning.{Record, good, blank, bad, Entry, intact, broken}
-use Rattle.image.specs.View.{Condition, Whole, Faulty, is_lost, condition, condition_at, log_length}
+use Rattle.image.specs.View.{is_lost, condition, condition_at, log_length}
+use Rattle.image.specs.declared.condition.Condition.{Condition}
+use Rattle.image.specs.declared.condition.Condition.TheVariants.{Whole, Faulty}
 use Rattle.image.specs.Verdict.{verdict_at}
 use Rattle.image.proofs.VerdictLaws.{Says, says_whole, says_record_lost, says_stale, says_doubtful, says_damaged, says_unfinished, says_unused, says_lost, says_record_only, verdict_says}
 use Rattle.planner.specs.Rules.{is_faulty, is_record_only, is_used}

@@ -6,7 +6,9 @@ use lib.Dec.{eqb}
 use Rattle.slices.proofs.SameLaws.{and_off}
 use Rattle.record.specs.Meaning.{good, blank, Entry, intact, broken}
 use Rattle.image.specs.Cluster.{Cluster}
-use Rattle.image.specs.View.{View, Condition, Unused, Whole, RecordLost, Faulty, Lost, RecordOnly, condition, epoch_of, condition_at, epoch_at, view_of, condition_as, seen_as}
+use Rattle.image.specs.View.{View, condition, epoch_of, condition_at, epoch_at, view_of, condition_as, seen_as}
+use Rattle.image.specs.declared.condition.Condition.{Condition}
+use Rattle.image.specs.declared.condition.Condition.TheVariants.{Unused, Whole, RecordLost, Faulty, Lost, RecordOnly}
 use Rattle.image.specs.Read.{is_whole}
 use Rattle.planner.specs.Setting.{Setting, witness, views_of}
 use Rattle.planner.specs.Rules.{is_faulty, is_record_only, is_used, answers, agrees, have, have_faulty, dont_have, may_lead}

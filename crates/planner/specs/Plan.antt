@@ -4,7 +4,8 @@ use Rattle.search.specs.Search.{listed}
 use Rattle.slices.specs.Parts.{Bytes}
 use Rattle.record.specs.declared.Shape.{Shape}
 use Rattle.image.specs.Refusal.{refuse, ◌else◌}
-use Rattle.image.specs.View.{Condition, condition_number, View, is_size, is_replica, is_slots, is_edition}
+use Rattle.image.specs.View.{condition_number, View, is_size, is_replica, is_slots, is_edition}
+use Rattle.image.specs.declared.condition.Condition.{Condition}
 use Rattle.image.specs.Cluster.{decode, image_at}
 use Rattle.planner.specs.Setting.{Setting, setting_of, views_of}
 use Rattle.planner.specs.Rules.{Rule, Keep, Fetch, Truncate, Wait, rule, donor, end, may_lead, same_firsts}

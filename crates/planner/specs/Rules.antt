@@ -1,7 +1,8 @@
 -- Document 01, "Asking the fleet": answers, rules and the end of the log, as functions of the views W of the replicas.
 use Rattle.std.specs.Prelude.{ℕ, ◌+◌, ◌-◌, ◌/◌, Bool, true, false, cond, not, ◌&&◌, ◌||◌, eqb, ltb}
 use Rattle.search.specs.Search.{lowest, count, all}
-use Rattle.image.specs.View.{Condition, condition_number, View}
+use Rattle.image.specs.View.{condition_number, View}
+use Rattle.image.specs.declared.condition.Condition.{Condition}
 use Rattle.image.specs.Read.{is_whole}
 use Rattle.planner.specs.Setting.{Setting, witness}
 

@@ -2,7 +2,9 @@
 use Rattle.std.specs.Prelude.{ℕ, zero, suc, pred, ◌+◌, ◌*◌, ◌<◌, ◌≤◌, ◌≡◌, Bool, true, false, cond, not, ◌&&◌, ◌||◌, List, eqb, ltb, length, get_or, take}
 use Rattle.search.specs.Search.{all}
 use Rattle.record.specs.declared.Shape.{Shape}
-use Rattle.image.specs.View.{Condition, Unused, Whole, RecordLost, Faulty, Lost, RecordOnly, View}
+use Rattle.image.specs.View.{View}
+use Rattle.image.specs.declared.condition.Condition.{Condition}
+use Rattle.image.specs.declared.condition.Condition.TheVariants.{Unused, Whole, RecordLost, Faulty, Lost, RecordOnly}
 use Rattle.image.specs.Refusal.{refuse}
 use Rattle.image.specs.View.{condition_number, is_replica}
 use Rattle.slices.specs.Parts.{Bytes}
@@ -36,7 +38,7 @@ condition_from (suc (suc (suc zero))) = Faulty
 condition_from (suc (suc (suc (suc zero)))) = Lost
 condition_from (suc (suc (suc (suc (suc x))))) = RecordOnly
 
--- the number of a condition, as it is seen of a witness or of a card (`conditionAs`)
+-- the number of a condition, as it is seen of a witness or of a card (`condition_as`)
 unfoldable pub number_as : Bool → ℕ → ℕ
 number_as witness x = cond (witness && (not (eqb x 0) && not (eqb x 4))) 5 x
 

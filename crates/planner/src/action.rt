@@ -1,4 +1,4 @@
-// What is to be done about a slot of the leader, as a byte of the plan: `planByte` of specs/Plan.antt. The byte of a slot that is kept is
+// What is to be done about a slot of the leader, as a byte of the plan: `plan_byte` of specs/Plan.antt. The byte of a slot that is kept is
 // its condition's number.
 pub const WAIT: u8 = 3;
 

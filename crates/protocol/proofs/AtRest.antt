@@ -12,7 +12,8 @@ use Rattle.search.proofs.SearchLaws.{lowest_le, lowest_passes, below_lowest}
 use Rattle.slices.specs.Parts.{Bytes}
 use Rattle.record.specs.Meaning.{Record, good, blank, bad, Entry, intact, broken}
 use Rattle.image.specs.Cluster.{Cluster}
-use Rattle.image.specs.View.{View, Whole, Faulty, condition, epoch_of, condition_at, epoch_at, view_of, seen_as}
+use Rattle.image.specs.View.{View, condition, epoch_of, condition_at, epoch_at, view_of, seen_as}
+use Rattle.image.specs.declared.condition.Condition.TheVariants.{Whole, Faulty}
 use Rattle.planner.specs.Setting.{Setting, witness, views_of}
 use Rattle.planner.specs.Rules.{is_faulty, is_record_lost, answers, answer, Ready}
 use Rattle.protocol.specs.Store.{Store}

@@ -1,4 +1,4 @@
--- The store that is due, with what the laws need to know of it: `due-facts`.
+-- The store that is due, with what the laws need to know of it: `due_facts`.
 use mathlib.Core.Path.{◌≡◌, refl}
 use mathlib.Core.Option.{none, some}
 use Prim.Native.Nat.{ℕ}

@@ -10,7 +10,9 @@ use Rattle.slices.specs.Parts.{Bytes}
 use Rattle.record.specs.Meaning.{Record, good, blank, bad, Entry, intact, broken}
 use Rattle.image.specs.Image.{Image}
 use Rattle.image.specs.SetSlot.{set_record, set_entry}
-use Rattle.image.specs.View.{View, Condition, Unused, Whole, RecordLost, Faulty, Lost, RecordOnly, condition, epoch_of, is_blank, is_lost, condition_at, epoch_at, log_length, view_of, condition_as, seen_as}
+use Rattle.image.specs.View.{View, condition, epoch_of, is_blank, is_lost, condition_at, epoch_at, log_length, view_of, condition_as, seen_as}
+use Rattle.image.specs.declared.condition.Condition.{Condition}
+use Rattle.image.specs.declared.condition.Condition.TheVariants.{Unused, Whole, RecordLost, Faulty, Lost, RecordOnly}
 use Rattle.image.specs.Read.{is_whole}
 use Rattle.image.proofs.ViewLaws.{Sound, readable_present, readable_sound, readable_intro}
 use Rattle.image.proofs.AddedLaws.{whole_beside}

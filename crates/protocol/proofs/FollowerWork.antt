@@ -10,7 +10,8 @@ use borrow.Author.Tests.{eq-eqb, lt-ltb, le-ltb, ltb-true}
 use Rattle.search.specs.Search.{count, one_if}
 use Rattle.search.proofs.SearchLaws.{lowest_is, lowest_cong, lowest_passes, below_lowest}
 use Rattle.search.proofs.CountLaws.{count_cong, count_lt, count_suc}
-use Rattle.image.specs.View.{View, Condition}
+use Rattle.image.specs.View.{View}
+use Rattle.image.specs.declared.condition.Condition.{Condition}
 use Rattle.planner.specs.Setting.{Setting}
 use Rattle.protocol.specs.Recovery.{differs, first_differing}
 use Rattle.protocol.proofs.Effects.{is_complete, Blanked, Mended, Appended}

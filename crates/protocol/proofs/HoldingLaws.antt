@@ -1,5 +1,5 @@
--- Whose logs hold one epoch at a slot: none of them answers don't-have there or below (`holding-quorum`), and none is truncated there
--- (`differing-above`).
+-- Whose logs hold one epoch at a slot: none of them answers don't-have there or below (`holding_quorum`), and none is truncated there
+-- (`differing_above`).
 use mathlib.Core.Path.{◌≡◌, refl, sym, ap, ◌∙◌}
 use mathlib.Core.Bool.{Bool, true, false, cond, not, true≢false}
 use Prim.Native.Nat.{ℕ, zero, suc, ◌+◌, ◌-◌, ◌≤◌, ◌<◌}
@@ -13,7 +13,9 @@ use Rattle.slices.specs.Parts.{Bytes}
 use Rattle.slices.proofs.SameLaws.{and_off}
 use Rattle.record.specs.Meaning.{Record, good, blank, bad, Entry, intact, broken}
 use Rattle.image.specs.Cluster.{Cluster}
-use Rattle.image.specs.View.{View, Condition, Unused, Whole, RecordLost, Faulty, Lost, RecordOnly, condition, condition_at, is_blank, view_of, condition_as, seen_as}
+use Rattle.image.specs.View.{View, condition, condition_at, is_blank, view_of, condition_as, seen_as}
+use Rattle.image.specs.declared.condition.Condition.{Condition}
+use Rattle.image.specs.declared.condition.Condition.TheVariants.{Unused, Whole, RecordLost, Faulty, Lost, RecordOnly}
 use Rattle.image.proofs.ViewLaws.{used_below}
 use Rattle.planner.specs.Setting.{Setting, witness, views_of}
 use Rattle.planner.specs.Rules.{majority, is_used, answers, agrees, dont_have}

@@ -1,4 +1,4 @@
--- What is supposed at first holds of all that recovery can reach (`reach-inv`).
+-- What is supposed at first holds of all that recovery can reach (`reach_inv`).
 use mathlib.Core.Path.{◌≡◌, sym, ap, ◌∙◌}
 use mathlib.Core.Bool.{Bool, true}
 use mathlib.Core.Option.{some}

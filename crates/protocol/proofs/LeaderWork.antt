@@ -7,7 +7,7 @@ use native.Mathlib.Decide.{ℕ_discrete}
 use Rattle.search.specs.Search.{count}
 use Rattle.search.proofs.CountLaws.{sum_lt, count_cong, count_lt, count_none}
 use Rattle.image.specs.Cluster.{Cluster}
-use Rattle.image.specs.View.{Condition}
+use Rattle.image.specs.declared.condition.Condition.{Condition}
 use Rattle.planner.specs.Setting.{Setting, witness, views_of}
 use Rattle.planner.specs.Rules.{end}
 use Rattle.protocol.proofs.LeaderDue.{LeaderDone}

@@ -1,4 +1,4 @@
--- The work falls with each store that was due (`work-falls`).
+-- The work falls with each store that was due (`work_falls`).
 use mathlib.Core.Path.{◌≡◌, sym}
 use mathlib.Core.Bool.{true}
 use Prim.Native.Nat.{ℕ, ◌≤◌, ◌<◌}

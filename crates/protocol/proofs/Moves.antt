@@ -5,12 +5,13 @@ use Prim.Native.Nat.{ℕ, ◌≤◌, ◌<◌}
 use native.Mathlib.Omega.{arith}
 use Rattle.search.specs.Put.{put}
 use Rattle.search.proofs.UpdateLaws.{put_same, put_other}
-use Rattle.slices.specs.Same.{same}
 use Rattle.record.specs.Meaning.{good, blank, Entry, intact}
 use Rattle.image.specs.Image.{Image}
 use Rattle.image.specs.SetSlot.{set_record, set_entry}
 use Rattle.image.specs.Cluster.{Cluster}
-use Rattle.image.specs.View.{View, Condition, Unused, Whole, RecordLost, Faulty, Lost, RecordOnly, condition, seen_as}
+use Rattle.image.specs.View.{View, seen_as}
+use Rattle.image.specs.declared.condition.Condition.{Condition}
+use Rattle.image.specs.declared.condition.Condition.TheVariants.{Unused, Whole, RecordLost, Faulty, Lost, RecordOnly}
 use Rattle.image.proofs.StoreLaws.{entry_at_lem, entry_off, record_off}
 use Rattle.planner.specs.Setting.{Setting, views_of}
 use Rattle.planner.specs.Rules.{is_faulty, is_record_lost, answers, Keep, is_truncate, is_wait, rule, donor, end}

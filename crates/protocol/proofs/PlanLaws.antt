@@ -1,4 +1,4 @@
--- A store that was due, once made, leaves the planner's answer, the readable replicas and their first indices as they were (`same-plan`).
+-- A store that was due, once made, leaves the planner's answer, the readable replicas and their first indices as they were (`same_plan`).
 use mathlib.Core.Path.{◌≡◌, refl, sym, ap, ◌∙◌, fun_ext}
 use mathlib.Core.Bool.{Bool, true, false, not, ◌&&◌}
 use Prim.Native.Nat.{ℕ, ◌≤◌, ◌<◌}

@@ -1,5 +1,5 @@
 -- A set of replicas that keeps a slot, whoever is in it: with such a set the leader truncates neither there (`untruncated`) nor below
--- (`end-above`).
+-- (`end_above`).
 use mathlib.Core.Path.{◌≡◌, refl, sym, ◌∙◌}
 use mathlib.Core.Bool.{Bool, true, false, cond, true≢false}
 use Prim.Native.Nat.{ℕ, ◌≤◌, ◌<◌}

@@ -11,7 +11,8 @@ use Rattle.slices.specs.Same.{same}
 use Rattle.slices.proofs.SameLaws.{and_left, and_right, same_true, same_refl}
 use Rattle.record.specs.Meaning.{Record, good, blank, bad, Entry, intact, broken}
 use Rattle.image.specs.Cluster.{Cluster}
-use Rattle.image.specs.View.{View, Whole, Faulty, condition, is_blank, is_lost, condition_at, epoch_at, view_of, condition_as, seen_as}
+use Rattle.image.specs.View.{View, condition, is_blank, is_lost, condition_at, epoch_at, view_of, condition_as, seen_as}
+use Rattle.image.specs.declared.condition.Condition.TheVariants.{Whole, Faulty}
 use Rattle.image.specs.Read.{is_whole}
 use Rattle.image.proofs.AddedLaws.{whole_beside}
 use Rattle.image.proofs.ViewLaws.{readable_sound, length_le, used_below}

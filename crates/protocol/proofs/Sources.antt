@@ -1,4 +1,4 @@
--- After a store, each used slot has the epoch, and on a card the entry, that some readable replica had there before it (`stored-source`).
+-- After a store, each used slot has the epoch, and on a card the entry, that some readable replica had there before it (`stored_source`).
 use mathlib.Core.Path.{◌≡◌, refl, sym, ap, ◌∙◌}
 use mathlib.Core.Bool.{true, false, true≢false}
 use Prim.Native.Nat.{ℕ, suc, ◌<◌}

@@ -28,7 +28,6 @@ use Rattle.protocol.proofs.FirstLaws.{entry_as, target_first, first_means, store
 use Rattle.protocol.proofs.ReadyPlan.{ReadyPlan}
 use Rattle.protocol.proofs.Due.{Due, due_facts}
 use Rattle.protocol.proofs.Keeps.{SomeEntry, due_cards, due_target, due_slot, due_donor, due_epoch}
-use Rattle.protocol.proofs.Reach as reach
 
 module _ (S : Setting) where
   open S use {shape, leader}

@@ -1,4 +1,4 @@
--- An interrupted store is due again, and made over the torn bytes it leaves what it would have left (`torn-law`).
+-- An interrupted store is due again, and made over the torn bytes it leaves what it would have left (`torn_law`).
 use mathlib.Core.Path.{◌≡◌, sym, ap, ◌∙◌, fun_ext}
 use mathlib.Core.Bool.{true, false}
 use mathlib.Core.Option.{Option, none, some}

@@ -1,4 +1,4 @@
--- The work that is left: at most 3 × n × m (`work-bound`).
+-- The work that is left: at most 3 × n × m (`work_bound`).
 use mathlib.Core.Path.{◌≡◌, refl}
 use mathlib.Core.Bool.{Bool, true, false, cond, not}
 use Prim.Native.Nat.{ℕ, ◌+◌, ◌-◌, ◌*◌, ◌≤◌, ◌<◌}

@@ -1,12 +1,13 @@
 -- The tests of an entry decide whether it is intact.
 use Prim.Native.Nat.{ℕ, ◌+◌, ◌<◌, ◌≤◌}
 use mathlib.Core.Path.{◌≡◌, sym, ◌∙◌, ap}
-use mathlib.Core.Bool.{Bool, not, true, false, ◌&&◌}
+use mathlib.Core.Bool.{true, false, ◌&&◌}
 use mathlib.Core.List.{◌++◌, append_assoc}
 use native.Mathlib.Omega.{arith}
 use lib.Dec.{leb}
 use lib.ListN.{length, take, drop, length-append, length-take, length-drop}
-use borrow.Author.Tests.{leb-true, le-leb, lt-leb, not-true, not-false}
+use borrow.Author.Tests.{leb-true, le-leb, lt-leb}
+use Rattle.std.specs.Prelude.{Some, None}
 use Rattle.slices.specs.Parts.{Bytes, part}
 use Rattle.slices.specs.Same.{same}
 use Rattle.slices.proofs.SameLaws.{and_left, and_right, and_off, and_assoc, same_refl, and_on}
@@ -17,10 +18,13 @@ use Rattle.record.specs.Layout.{padded, entry_bytes}
 use Rattle.record.specs.Meaning.{is_epoch, is_intact, entry_epoch, entry_payload, read_entry}
 use Rattle.record.specs.Judged.{entry_answer}
 use Rattle.record.specs.Seal.{is_front}
-use Rattle.record.specs.declared.EntryState.TheVariants.{Intact, Broken}
+use Rattle.record.specs.declared.Intact.{Intact}
 use Rattle.record.proofs.LayoutLaws.{length_sealed}
 use Rattle.record.proofs.RecordLaws.{epoch_high}
 use Rattle.record.proofs.JudgeLaws.{same_front, same_column, sealed_is, close}
+
+abbrev pub intact_of : ℕ → ℕ → Intact
+intact_of e size = record { epoch = e; size = size }
 
 -- what the seal of an entry covers, its payload's length being n
 abbrev covered : ℕ → ℕ → ℕ → Bytes → Bytes
@@ -72,16 +76,14 @@ module _ (k e n : ℕ) (s : Bytes) (h : length s ≡ 240) where
       let w : 200 < length (part s 26 n) = simp (length-take, length-drop) (omega arith) in
       sym (rw (lt-leb (length (part s 26 n)) 200 w) (simp and_off))
 
-  pub intact_no_front : n ≤ 200 → (r : Bool) → r ≡ is_front k e s → not r ≡ true → false ≡ is_intact k e (part s 26 n) s
-  intact_no_front l r i t = sym (rw (intact_tests l, ← i, not-true r t))
+  -- another front
+  pub intact_no_front : n ≤ 200 → false ≡ is_front k e s → false ≡ is_intact k e (part s 26 n) s
+  intact_no_front l i = sym (rw (intact_tests l, ← i))
 
-  pub intact_other_length : n ≤ 200 → same (part s 22 4) (column 4 n) ≡ false → false ≡ is_intact k e (part s 26 n) s
-  intact_other_length l t = sym (rw (intact_tests l, t) (simp and_off))
-
-  -- what stands behind the payload decides
-  pub intact_close : n ≤ 200 → (r : Bool) → r ≡ is_front k e s → not r ≡ false → same (part s 22 4) (column 4 n) ≡ true
-      → same (drop (26 + n) s) (close (26 + n) (take (26 + n) s)) ≡ is_intact k e (part s 26 n) s
-  intact_close l r i t u = sym (rw (intact_tests l, ← i, not-false r t, u))
+  -- behind the writer's the length and what follows the payload decide
+  pub intact_behind : n ≤ 200 → true ≡ is_front k e s → is_intact k e (part s 26 n) s
+      ≡ same (part s 22 4) (column 4 n) && same (drop (26 + n) s) (close (26 + n) (take (26 + n) s))
+  intact_behind l i = rw (intact_tests l, ← i)
 
   -- the payload is as long as its column says
   pub intact_size : is_intact k e (part s 26 n) s ≡ true → length (part s 26 n) ≡ n
@@ -100,11 +102,11 @@ module _ (k e n : ℕ) (s : Bytes) (h : length s ≡ 240) where
     unfolding entry_payload part
     entry_payload_is = ap (part s 26) (sym hn)
 
-    pub answer_intact : is_intact k e (part s 26 n) s ≡ true → Intact e n ≡ entry_answer (read_entry k s)
+    pub answer_intact : is_intact k e (part s 26 n) s ≡ true → Some (intact_of e n) ≡ entry_answer (read_entry k s)
     unfolding read_entry entry_answer
-    answer_intact t = sym (rw (entry_epoch_is, entry_payload_is, t) (ap (Intact e) (intact_size t)))
+    answer_intact t = sym (rw (entry_epoch_is, entry_payload_is, t) (ap (λ (z : ℕ). Some (intact_of e z)) (intact_size t)))
 
-    pub answer_broken : is_intact k e (part s 26 n) s ≡ false → Broken ≡ entry_answer (read_entry k s)
+    pub answer_broken : is_intact k e (part s 26 n) s ≡ false → None ≡ entry_answer (read_entry k s)
     unfolding read_entry entry_answer
     answer_broken t = sym (rw (entry_epoch_is, entry_payload_is, t))
 

@@ -1,13 +1,14 @@
 -- What the writer writes is compared part by part: columns, seals, and what records and entries begin with.
 use Prim.Native.Nat.{ℕ, suc, ◌+◌, ◌-◌, ◌<◌, ◌≤◌}
 use mathlib.Core.Path.{◌≡◌, refl, sym, ◌∙◌, ap}
-use mathlib.Core.Bool.{Bool, not, true, false, ◌&&◌}
+use mathlib.Core.Bool.{Bool, true, false, ◌&&◌}
 use mathlib.Core.List.{[], ◌∷◌, ◌++◌}
+use mathlib.Core.Logic.{◌⊎◌, inl, inr}
 use native.Mathlib.Omega.{arith}
 use lib.Dec.{eqb}
 use lib.ListN.{length, take, drop, get_or, replicate, length-append, length-take, length-drop, take-append-drop, drop_of_length-le}
 use lib.Seq.{take_all, drop-cons, drop-drop, get_or-take, get_or-drop}
-use borrow.Author.Tests.{lt-leb, eq-eqb, ne_eqb, not-true, not-false}
+use borrow.Author.Tests.{lt-leb, eq-eqb, ne_eqb}
 use Rattle.slices.specs.Parts.{Bytes, part}
 use Rattle.slices.specs.Same.{same}
 use Rattle.slices.proofs.SameLaws.{and_off, same_true, same_append, and_on}
@@ -26,6 +27,13 @@ use Rattle.record.proofs.RecordLaws.{is_epoch_lem}
 and_when : (t u v : Bool) → (t ≡ true → u ≡ v) → t && u ≡ t && v
 and_when true u v h = h refl
 and_when false u v h = refl
+
+-- a test of two: the first decides where it fails, and else the second does
+pub and_first : {x r : Bool} (a b : Bool) → x ≡ a && b → r ≡ a → r ≡ false → r ≡ x
+and_first a b e h f = f ∙ sym (e ∙ ap (λ (t : Bool). t && b) (sym h ∙ f))
+
+pub and_next : {x r u : Bool} (a b : Bool) → x ≡ a && b → r ≡ a → r ≡ true → u ≡ b → u ≡ x
+and_next a b e h f k = k ∙ sym (e ∙ ap (λ (t : Bool). t && b) (sym h ∙ f))
 
 -- ---- lists that are compared in two parts
 
@@ -68,14 +76,6 @@ module _ (s : Bytes) (a w x : ℕ) (h : a + w ≤ length s) where
   unfolding part
   column_here = ap (λ (n : ℕ). same (take w (drop a s)) (column n x)) (length_part s a w h)
 
-  pub column_off : (r : Bool) → r ≡ same (take w (drop a s)) (column (length (take w (drop a s))) x) → not r ≡ true
-      → same (part s a w) (column w x) ≡ false
-  column_off r e t = sym column_here ∙ sym e ∙ not-true r t
-
-  pub column_on : (r : Bool) → r ≡ same (take w (drop a s)) (column (length (take w (drop a s))) x) → not r ≡ false
-      → same (part s a w) (column w x) ≡ true
-  column_on r e t = sym column_here ∙ sym e ∙ not-false r t
-
 -- ---- seals
 
 pub length_seal : (x : Bytes) → length (seal_of x) ≡ 12
@@ -98,7 +98,7 @@ module _ (s x : Bytes) (a : ℕ) (h : a + 12 ≤ length s) where
       ∙ rw (take_part s a 12 11 (omega arith), part_byte s a 12 11 (omega arith))
 
   -- no newline
-  pub seal_open : ¬ (get_or s (a + 11) 0 ≡ 10) → false ≡ same (part s a 12) (seal_of x)
+  pub seal_open : ¬ (get_or s (a + 11) 0 ≡ 10) → eqb (get_or s (a + 11) 0) 10 ≡ same (part s a 12) (seal_of x)
   seal_open k = sym (rw (seal_tests, ne_eqb _ 10 k) (simp and_off))
 
 -- a newline: the checksum decides
@@ -117,39 +117,29 @@ abbrev pub close : ℕ → Bytes → Bytes
 close a x = seal_of x ++ replicate (240 - (a + 12)) 32
 
 module _ (s x : Bytes) (a : ℕ) (h : length s ≡ 240) (l : a + 12 ≤ 240) where
-  close_tests : same (drop a s) (close a x) ≡ same (part s a 12) (seal_of x) && same (drop (a + 12) s) (replicate (240 - (a + 12)) 32)
+  pub close_tests : same (drop a s) (close a x) ≡ same (part s a 12) (seal_of x) && same (drop (a + 12) s) (replicate (240 - (a + 12)) 32)
   unfolding part
   close_tests =
       same_cut (drop a s) (seal_of x) (replicate (240 - (a + 12)) 32) 12 (length_seal x) (simp length-drop (omega arith)) ∙ rw drop-drop
 
-  pub close_unsealed : (r : Bool) → r ≡ same (part s a 12) (seal_of x) → not r ≡ true → false ≡ same (drop a s) (close a x)
-  close_unsealed r e t = sym (rw (close_tests, ← e, not-true r t))
-
-  -- a seal: the spaces decide
-  pub close_spaces : (r u : Bool) → r ≡ same (part s a 12) (seal_of x) → not r ≡ false
-      → u ≡ same (take (240 - (a + 12)) (drop (a + 12) s)) (replicate (length (take (240 - (a + 12)) (drop (a + 12) s))) 32)
-      → u ≡ same (drop a s) (close a x)
-  close_spaces r u e t k =
-      let w : length (drop (a + 12) s) ≡ 240 - (a + 12) = simp length-drop (omega arith) in
-      let z : take (240 - (a + 12)) (drop (a + 12) s) ≡ drop (a + 12) s = take_all (240 - (a + 12)) (drop (a + 12) s) (omega arith) in
-      k ∙ rw (z, w) (sym (rw (close_tests, ← e, not-false r t)))
+-- the spaces, as they are compared
+pub close_spaces : (s : Bytes) (a : ℕ) → length s ≡ 240 → a + 12 ≤ 240
+    → same (take (240 - (a + 12)) (drop (a + 12) s)) (replicate (length (take (240 - (a + 12)) (drop (a + 12) s))) 32)
+    ≡ same (drop (a + 12) s) (replicate (240 - (a + 12)) 32)
+close_spaces s a h l =
+    let w : length (drop (a + 12) s) ≡ 240 - (a + 12) = simp length-drop (omega arith) in
+    let z : take (240 - (a + 12)) (drop (a + 12) s) ≡ drop (a + 12) s = take_all (240 - (a + 12)) (drop (a + 12) s) (omega arith) in
+    rw (z, w)
 
 -- ---- fronts
 
 module _ (k e : ℕ) (s : Bytes) where
-  pub front_epoch_zero : e < 1 → false ≡ is_front k e s
+  pub front_no_epoch : (e < 1) ⊎ ((1 ≤ e) × (4294967295 < e)) → false ≡ is_front k e s
   unfolding is_front is_epoch
-  front_epoch_zero h = sym (rw (lt-leb 1 e h))
+  front_no_epoch (inl h) = sym (rw (lt-leb 1 e h))
+  front_no_epoch (inr h) = sym (rw (lt-leb e 4294967295 h.1) (simp and_off))
 
-  pub front_epoch_beyond : 4294967295 < e → false ≡ is_front k e s
-  unfolding is_front is_epoch
-  front_epoch_beyond h = sym (rw (lt-leb e 4294967295 h) (simp and_off))
-
-  pub front_other_epoch : same (part s 0 11) (column 11 e) ≡ false → false ≡ is_front k e s
+  -- of an epoch the columns decide
+  pub front_columns : 1 ≤ e → e ≤ 4294967295 → is_front k e s ≡ same (part s 0 11) (column 11 e) && same (part s 11 11) (column 11 k)
   unfolding is_front
-  front_other_epoch t = sym (rw t (simp and_off))
-
-  -- the index decides
-  pub front_index : 1 ≤ e → e ≤ 4294967295 → same (part s 0 11) (column 11 e) ≡ true → same (part s 11 11) (column 11 k) ≡ is_front k e s
-  unfolding is_front
-  front_index lo hi t = sym (rw (is_epoch_lem e lo hi, t))
+  front_columns lo hi = rw (is_epoch_lem e lo hi)

@@ -1,12 +1,12 @@
 -- The tests of a record decide whether it is good, blank or bad.
 use Prim.Native.Nat.{ℕ, ◌≤◌}
 use mathlib.Core.Path.{◌≡◌, refl, sym, ◌∙◌, ap}
-use mathlib.Core.Bool.{Bool, not, true, false, ◌&&◌}
+use mathlib.Core.Bool.{Bool, true, false, ◌&&◌}
 use mathlib.Core.List.{◌++◌}
 use native.Mathlib.Omega.{arith}
 use lib.Dec.{eqb}
 use lib.ListN.{length, take, get_or, replicate, length-append, length-take}
-use borrow.Author.Tests.{eq-eqb, ne_eqb, not-true, not-false}
+use borrow.Author.Tests.{eq-eqb, ne_eqb}
 use Rattle.slices.specs.Parts.{Bytes, part}
 use Rattle.slices.specs.Same.{same}
 use Rattle.slices.proofs.SameLaws.{and_left, and_off, and_assoc, and_on}
@@ -30,16 +30,9 @@ module _ (k e : ℕ) (s : Bytes) (h : length s ≡ 34) where
       ap (same s) (sealed_is x) ∙ same_front s x 22 seal_of (simp (length-append, length_column)) (omega arith)
       ∙ rw (← part_take s 22, ← part_drop s 22 12 h, same_column s (column 11 k) 0 11 11 e (omega arith))
 
-  good_tests : is_good k e s ≡ is_front k e s && same (part s 22 12) (seal_of (take 22 s))
+  pub good_tests : is_good k e s ≡ is_front k e s && same (part s 22 12) (seal_of (take 22 s))
   unfolding is_good is_front
   good_tests = rw record_tests (simp and_assoc)
-
-  pub good_no_front : (r : Bool) → r ≡ is_front k e s → not r ≡ true → false ≡ is_good k e s
-  good_no_front r i t = sym (rw (good_tests, ← i, not-true r t))
-
-  -- the seal decides
-  pub good_seal : (r : Bool) → r ≡ is_front k e s → not r ≡ false → same (part s 22 12) (seal_of (take 22 s)) ≡ is_good k e s
-  good_seal r i t = sym (rw (good_tests, ← i, not-false r t))
 
 -- the newline, and then the spaces
 module _ (s : Bytes) (h : length s ≡ 34) where
@@ -47,7 +40,7 @@ module _ (s : Bytes) (h : length s ≡ 34) where
   unfolding blank_record
   blank_tests = same_last s (replicate 33 32) 33 10 refl h
 
-  pub blank_open : ¬ (get_or s 33 0 ≡ 10) → false ≡ same s blank_record
+  pub blank_open : ¬ (get_or s 33 0 ≡ 10) → eqb (get_or s 33 0) 10 ≡ same s blank_record
   blank_open k = sym (rw (blank_tests, ne_eqb _ 10 k) (simp and_off))
 
   pub blank_spaces : (r : Bool) → get_or s 33 0 ≡ 10 → r ≡ same (take 33 s) (replicate (length (take 33 s)) 32) → r ≡ same s blank_record
@@ -55,7 +48,7 @@ module _ (s : Bytes) (h : length s ≡ 34) where
       let w : length (take 33 s) ≡ 33 = simp length-take (omega arith) in
       e ∙ rw w (sym (rw (blank_tests, eq-eqb _ 10 k) (and_on _)))
 
-module _ (k e : ℕ) (s : Bytes) (is : e ≡ value_of (take 11 s)) where
+module _ (k : ℕ) {e : ℕ} (s : Bytes) (is : e ≡ value_of (take 11 s)) where
   epoch_is : record_epoch s ≡ e
   unfolding record_epoch part
   epoch_is = sym is

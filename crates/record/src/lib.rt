@@ -7,7 +7,7 @@ ghost use Rattle.record.specs.Claims.{Exact, EditionOne, RoundTrip, ChangedPaylo
 // What a call names of its cluster: n replicas of m slots each, all of one edition, and the set of those that are witnesses. A header of
 // edition 2 gives the index of the first slot.
 #[repr(C)]
-#[derive(Clone, Copy)]
+#[derive(Clone, Copy, PartialEq, Eq)]
 pub struct Shape {
     pub n: usize,
     pub m: usize,
@@ -15,26 +15,19 @@ pub struct Shape {
     pub witnesses: u32,
 }
 
-// What a header is found to be: the writer's, with the index of the first slot, or not.
-#[derive(Drop)]
-pub enum HeaderState {
-    Proper(u32),
-    Improper,
-}
-
 // What a record is found to be.
-#[derive(Drop)]
+#[derive(Clone, Copy, PartialEq, Eq)]
 pub enum RecordState {
     Good(u32),
     Blank,
     Bad,
 }
 
-// What an entry is found to be: intact with its epoch and its payload's length, or not.
-#[derive(Drop)]
-pub enum EntryState {
-    Intact { epoch: u32, size: usize },
-    Broken,
+// An intact entry: its epoch, and its payload's length.
+#[derive(Clone, Copy, PartialEq, Eq)]
+pub struct Intact {
+    pub epoch: u32,
+    pub size: usize,
 }
 
 // The judges say exactly what document 01 says.

@@ -9,7 +9,9 @@ use lib.ListN.{get_or}
 use borrow.Author.Tests.{lt-ltb, le-ltb}
 use Rattle.search.specs.Search.{lowest}
 use Rattle.search.proofs.SearchLaws.{lowest_le, lowest_passes, lowest_cong}
-use Rattle.image.specs.View.{Condition, Unused, Whole, RecordLost, Faulty, Lost, RecordOnly, View}
+use Rattle.image.specs.View.{View}
+use Rattle.image.specs.declared.condition.Condition.{Condition}
+use Rattle.image.specs.declared.condition.Condition.TheVariants.{Unused, Whole, RecordLost, Faulty, Lost, RecordOnly}
 use Rattle.image.specs.View.{condition_number}
 use Rattle.image.proofs.ScannedLaws.{taken_at}
 use Rattle.planner.specs.Setting.{Setting}
@@ -78,7 +80,7 @@ module _ (S : Setting) (W : ℕ → View) where
     unfolding plan_bytes plan_byte
     byte_at k h =
         let l = end_le S W in
-        taken_at S.shape.m (plan_byte S W) bytes p.bytes_are k (omega arith)
+        taken_at S.shape.m (plan_byte S W) bytes 0 p.bytes_are k (omega arith)
         ∙ rw (lt-ltb k (W S.leader).length (omega arith), le-ltb (end S W) k (omega arith))
 
     pub fetch_found : lowest (λ k. ltb 10 (get_or bytes k 0)) (end S W) ≡ lowest (λ k. is_fetch (rule S W k)) (end S W)

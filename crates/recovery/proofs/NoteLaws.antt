@@ -4,12 +4,14 @@ use mathlib.Core.Path.{◌≡◌, refl, sym, ap, ◌∙◌, subst}
 use mathlib.Core.Bool.{Bool, true, false, cond}
 use native.Mathlib.Omega.{arith}
 use lib.Dec.{ltb}
-use lib.ListN.{length, get_or, set}
+use lib.ListN.{get_or, set}
 use lib.Seq.{get_or-set_same, get_or-set_other}
 use borrow.Author.Tests.{lt-ltb, le-ltb}
 use Rattle.search.specs.Put.{put}
 use Rattle.search.proofs.UpdateLaws.{put_case, put_back}
-use Rattle.image.specs.View.{View, Condition, Unused, Whole, condition_as}
+use Rattle.image.specs.View.{View, condition_as}
+use Rattle.image.specs.declared.condition.Condition.{Condition}
+use Rattle.image.specs.declared.condition.Condition.TheVariants.{Unused, Whole}
 use Rattle.image.specs.View.{condition_number}
 use Rattle.record.specs.declared.Shape.{Shape}
 use Rattle.record.specs.Layout.{is_witness}

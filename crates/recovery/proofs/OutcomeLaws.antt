@@ -13,7 +13,6 @@ use Rattle.image.specs.View.{is_slots}
 use Rattle.image.specs.Cluster.{decode}
 use Rattle.image.proofs.ClusterLaws.{image_fits}
 use Rattle.planner.specs.Setting.{setting_of}
-use Rattle.planner.specs.Rules.{Waiting, Ready}
 use Rattle.protocol.specs.Store.{Store, store_entry, store_record, store_blank, store_replica, store_slot, store_kind}
 use Rattle.protocol.specs.Recovery.{after}
 use Rattle.protocol.specs.StepBytes.{after_store_bytes, next_in, steps_bytes, stores_bytes}

@@ -11,7 +11,9 @@ use Rattle.record.specs.Meaning.{good, blank, Entry, intact, broken}
 use Rattle.image.specs.Image.{Image}
 use Rattle.image.specs.SetSlot.{set_record, set_entry}
 use Rattle.image.specs.Cluster.{Cluster}
-use Rattle.image.specs.View.{View, Condition, Unused, Whole, Faulty, condition, epoch_of, view_of, condition_as, seen_as}
+use Rattle.image.specs.View.{View, condition, epoch_of, view_of, condition_as, seen_as}
+use Rattle.image.specs.declared.condition.Condition.{Condition}
+use Rattle.image.specs.declared.condition.Condition.TheVariants.{Unused, Whole, Faulty}
 use Rattle.image.proofs.StoreLaws.{record_condition, record_condition_other, record_epoch_lem, record_epoch_other}
 use Rattle.planner.specs.Setting.{Setting, witness, views_of}
 use Rattle.planner.specs.Rules.{is_record_lost}

@@ -9,7 +9,6 @@ use Rattle.recovery.specs.declared.StepAnswer.{StepAnswer}
 use Rattle.recovery.specs.declared.StepAnswer.TheVariants as step
 use Rattle.recovery.specs.declared.RunAnswer.{RunAnswer}
 use Rattle.recovery.specs.declared.RunAnswer.TheVariants as run
-use Rattle.recovery.specs.declared.Outlook.TheVariants as outlook
 
 -- what a call names; the leader by its number
 abbrev pub numbers : Shape → ℕ → ℕ → Numbers

@@ -3,7 +3,9 @@ use Rattle.std.specs.Prelude.{ℕ, suc, ◌+◌, ◌*◌, ◌<◌, ◌≡◌, Bo
 use Rattle.search.specs.Put.{put}
 use Rattle.slices.specs.Parts.{Bytes}
 use Rattle.record.specs.declared.Shape.{Shape}
-use Rattle.image.specs.View.{Condition, Unused, Whole, View, condition_as}
+use Rattle.image.specs.View.{View, condition_as}
+use Rattle.image.specs.declared.condition.Condition.{Condition}
+use Rattle.image.specs.declared.condition.Condition.TheVariants.{Unused, Whole}
 use Rattle.planner.specs.Setting.{Setting, witness}
 use Rattle.planner.specs.Rules.{Ready, answer, end}
 use Rattle.planner.specs.Plan.{views_in}

@@ -22,14 +22,13 @@ use recovery::{NextStore, RunAnswer};
 use store::make_store;
 
 // The replica that a store is made on.
+#[tactic(auto, unfolding(protocol::specs::Store::store_replica))]
 fn made_on(store: NextStore) -> usize
     ensures { (t : Store) → store_of store ≡ some t → result ≡ store_replica t }
 {
     match store {
         NextStore::Nothing => 0,
-        NextStore::Entry { c, k: _, donor: _ } => c,
-        NextStore::Record { c, k: _, epoch: _ } => c,
-        NextStore::Blank { c, k: _ } => c,
+        NextStore::Entry { c, .. } | NextStore::Record { c, .. } | NextStore::Blank { c, .. } => c,
     }
 }
 
@@ -49,6 +48,7 @@ fn next_store(cluster: &[u8], survey: Survey, shape: Shape, leader: usize, c: us
 }
 
 // Spent if a store is outstanding, else recovered.
+#[tactic(auto, using(recovery::proofs::Underway::counted_spent, recovery::proofs::Underway::counted_recovered))]
 fn run_answer(store: NextStore, made: u64) -> RunAnswer
     ensures { run_answer_result result ≡ counted (run_result made (store_of store)) }
 {
@@ -85,16 +85,14 @@ pub fn run_cluster(
     let leader = opening.leader;
     let mut survey = opening.survey;
     let mut store = first_store(cluster, survey, plan, shape, leader);
-    let mut made: u64 = 0;
-    while made < budget {
+    for made in 0..budget {
         if !is_outstanding(store) {
             return RunAnswer::Recovered(made);
         }
         let first = survey.firsts[leader];
         make_store(cluster, shape, first, store);
-        made += 1;
         survey = note_store(survey, shape, store);
         store = next_store(cluster, survey, shape, leader, made_on(store));
     }
-    run_answer(store, made)
+    run_answer(store, budget)
 }

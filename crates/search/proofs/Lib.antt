@@ -3,3 +3,4 @@ pub mod SearchLaws
 pub mod UpdateLaws
 pub mod CountLaws
 pub mod ListedLaws
+pub mod ChainLaws

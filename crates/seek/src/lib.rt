@@ -2,7 +2,7 @@
 // And whether an entry differs. Slot k of replica c stands at c * MAX_SLOTS + k. Replicas and slots count from 0.
 #![tactic(auto)]
 
-ghost use Rattle.std.specs.Prelude.{◌+◌, ◌*◌, ◌<◌, ◌≤◌, ◌≡◌, not, ◌&&◌, eqb, ltb, length, get_or};
+ghost use Rattle.std.specs.Prelude.{ℕ, Bool, ◌+◌, ◌*◌, ◌<◌, ◌≤◌, ◌≡◌, not, ◌&&◌, eqb, ltb, length, get_or};
 ghost use Rattle.search.specs.Search.{lowest};
 ghost use Rattle.slices.specs.Parts.{part};
 ghost use Rattle.slices.specs.Same.{same};
@@ -16,19 +16,26 @@ use locate::{ENTRY_SIZE, entry_in};
 use planner::{SURVEY_SLOTS, action};
 use record::Shape;
 
+// The lowest number below the bound that passes; the bound if none does.
+fn lowest<F: Fn(usize) -> bool>(bound: usize, passes: F) -> usize
+    requires { (k : ℕ) → k < bound → F.pre passes k }
+    ensures { (p : ℕ → Bool) → ((k : ℕ) (b : Bool) → k < bound → F.post passes k b → b ≡ p k) →
+        result ≡ lowest p bound }
+{
+    for k in 0..bound {
+        if passes(k) {
+            return k;
+        }
+    }
+    bound
+}
+
 // The lowest slot of replica c below the bound whose condition has this number; the bound if there is none.
 pub fn first_with(conditions: &[u8; SURVEY_SLOTS], c: usize, number: u8, bound: usize) -> usize
     requires { (c < 7) × (bound ≤ 64) }
     ensures { result ≡ lowest (λ k. eqb (get_or conditions.now (c * 64 + k) 0) number) bound }
 {
-    let mut k: usize = 0;
-    while k < bound {
-        if conditions[c * MAX_SLOTS + k] == number {
-            return k;
-        }
-        k += 1;
-    }
-    k
+    lowest(bound, |k| conditions[c * MAX_SLOTS + k] == number)
 }
 
 // The lowest slot below the end whose plan byte says fetch; the end if there is none.
@@ -36,14 +43,7 @@ pub fn first_fetched(bytes: &[u8; MAX_SLOTS], end: usize) -> usize
     requires { end ≤ 64 }
     ensures { result ≡ lowest (λ k. ltb 10 (get_or bytes.now k 0)) end }
 {
-    let mut k: usize = 0;
-    while k < end {
-        if action::FETCH < bytes[k] {
-            return k;
-        }
-        k += 1;
-    }
-    k
+    lowest(end, |k| action::FETCH < bytes[k])
 }
 
 // The lowest slot of replica c whose epoch differs from the leader's or which lies beyond the leader's length, `limit`; one past its last if
@@ -59,20 +59,14 @@ pub fn first_differing(
     ensures { result ≡ lowest (λ k. not (ltb k limit
         && eqb (get_or epochs.now (c * 64 + k) 0) (get_or epochs.now (leader * 64 + k) 0))) length }
 {
-    let mut k: usize = 0;
-    while k < length {
-        if limit <= k {
-            return k;
-        }
-        if epochs[c * MAX_SLOTS + k] != epochs[leader * MAX_SLOTS + k] {
-            return k;
-        }
-        k += 1;
-    }
-    k
+    lowest(
+        length,
+        |k| limit <= k || epochs[c * MAX_SLOTS + k] != epochs[leader * MAX_SLOTS + k],
+    )
 }
 
 // Whether the entry of slot k of replica c differs from the leader's in any byte. Both are cards.
+#[tactic(auto, using(recovery::proofs::OffsetLaws::entry_room, slices::proofs::SpliceLaws::part_lent))]
 pub fn entry_differs(cluster: &[u8], shape: Shape, leader: usize, c: usize, k: usize) -> bool
     requires m_bound { (shape.m ≤ 64) × (k < shape.m) }
     requires card_fits { CardFits shape (length cluster.now) c × CardFits shape (length cluster.now) leader }
@@ -80,8 +74,9 @@ pub fn entry_differs(cluster: &[u8], shape: Shape, leader: usize, c: usize, k: u
         (part cluster.now (image_at shape leader + entry_at shape k) entry_size)) }
 {
     let own = entry_in(shape, c, k);
-    let own_end = own + ENTRY_SIZE;
     let other = entry_in(shape, leader, k);
-    let other_end = other + ENTRY_SIZE;
-    !copy::same_bytes(&cluster[own..own_end], &cluster[other..other_end])
+    !copy::same_bytes(
+        &cluster[own..own + ENTRY_SIZE],
+        &cluster[other..other + ENTRY_SIZE],
+    )
 }

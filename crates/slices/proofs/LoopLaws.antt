@@ -4,7 +4,6 @@ use mathlib.Core.Path.{◌≡◌, refl, sym, ◌∙◌}
 use mathlib.Core.Bool.{◌&&◌}
 use lib.Dec.{eqb}
 use lib.Bits.{bit_or, bit_xor}
-use mathlib.Core.List.{◌++◌, append-nil}
 use native.Mathlib.Omega.{arith}
 use native.Mathlib.Numerals.{add-one}
 use lib.ListN.{length, take, drop, get_or, set, replicate, drop_of_length-le}
@@ -31,9 +30,6 @@ same_end d xs ys i h k = rw (drop_of_length-le xs h, drop_of_length-le ys k) (an
 
 -- ---- compared with one byte
 
-pub all_start : (xs : Bytes) (v : ℕ) → same (drop 0 xs) (replicate (length xs - 0) v) ≡ same xs (replicate (length xs) v)
-all_start xs v = let n : length xs - 0 ≡ length xs = omega arith in rw n
-
 pub all_step :
     (d : ℕ) (xs : Bytes) (v i : ℕ) →
     i < length xs →
@@ -48,10 +44,7 @@ pub all_end : (d : ℕ) (xs : Bytes) (v i : ℕ) → length xs ≤ i → (eqb d 
 unfolding same
 all_end d xs v i h = let n : length xs - i ≡ 0 = omega arith in rw (n, drop_of_length-le xs h) (and_unit (eqb d 0))
 
--- ---- filled and copied from the front
-
-pub fill_end : (old : Bytes) (v i : ℕ) {s : Bytes} → s ≡ replicate i v ++ drop i old → i ≤ length old → length old ≤ i → s ≡ replicate (length old) v
-fill_end old v i e h k = let n : i ≡ length old = omega arith in e ∙ rw (drop_of_length-le old k, append-nil, n) refl
+-- ---- copied from the front
 
 pub copy_step : (d s : Bytes) (i : ℕ) → i < length d → i < length s → take i d ≡ take i s → take (i + 1) (set d i (get_or s i 0)) ≡ take (i + 1) s
 copy_step d s i h k e = rw (add-one, take-suc-set d i (get_or s i 0) h, take-suc s i 0 k, e) refl

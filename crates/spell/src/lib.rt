@@ -11,6 +11,7 @@ ghost use Rattle.slices.specs.Parts.{spliced};
 use column::ColumnState;
 
 // The last byte of a column.
+#[tactic(auto, unfolding(column::specs::Digit::last_byte))]
 fn last_byte(x: u64) -> u8
     ensures { result ≡ last_byte x }
 {
@@ -18,29 +19,25 @@ fn last_byte(x: u64) -> u8
 }
 
 // A byte before the last one, for what is left of the number.
+#[tactic(auto, unfolding(column::specs::Digit::last_byte, column::specs::Digit::high_byte))]
 fn high_byte(x: u64) -> u8
     ensures { result ≡ high_byte x }
 {
-    if x == 0 {
-        return b' ';
-    }
-    last_byte(x)
+    if x == 0 { b' ' } else { last_byte(x) }
 }
 
 // Writes x over the whole slice, right-justified.
 pub fn write_number(s: &mut [u8], x: u64)
     ensures { s.new ≡ column (length s.old) x }
 {
-    if s.len() == 0 {
+    let Some((last, front)) = s.split_last_mut() else {
         return;
-    }
-    let mut i: usize = s.len() - 1;
-    s[i] = last_byte(x);
+    };
+    *last = last_byte(x);
     let mut rest: u64 = x / 10;
-    while 0 < i {
-        i -= 1;
-        s[i] = high_byte(rest);
-        rest = rest / 10;
+    for i in (0..front.len()).rev() {
+        front[i] = high_byte(rest);
+        rest /= 10;
     }
 }
 
@@ -57,38 +54,32 @@ pub fn put_number(s: &mut [u8], at: usize, width: usize, x: u64)
 pub fn holds_number(s: &[u8], x: u64) -> bool
     ensures { result ≡ same s.now (column (length s.now) x) }
 {
-    if s.len() == 0 {
+    let Some((last, front)) = s.split_last() else {
         return true;
-    }
-    let mut at: usize = s.len() - 1;
-    let last = last_byte(x);
-    if s[at] != last {
+    };
+    if *last != last_byte(x) {
         return false;
     }
     let mut above: u64 = x / 10;
-    while 0 < at {
-        at -= 1;
-        let high = high_byte(above);
-        if s[at] != high {
+    for byte in front.iter().rev() {
+        if *byte != high_byte(above) {
             return false;
         }
-        above = above / 10;
+        above /= 10;
     }
     true
 }
 
 // One byte more of a number; what is no digit is passed over.
+#[tactic(auto, unfolding(column::specs::Column::digit_step))]
 fn digit_step(v: u64, b: u8) -> u64
     requires { v < 1000000000000000000 }
     ensures { result ≡ digit_step v b }
 {
-    if b < b'0' {
-        return v;
+    match b {
+        b'0'..=b'9' => v * 10 + u64::from(b - b'0'),
+        _ => v,
     }
-    if b'9' < b {
-        return v;
-    }
-    v * 10 + (b - b'0') as u64
 }
 
 // The only number that can stand in the slice, if any does.
@@ -97,25 +88,24 @@ pub fn number_in(s: &[u8]) -> u64
     ensures { result ≡ value_of s.now }
 {
     let mut v: u64 = 0;
-    let mut i: usize = 0;
-    while i < s.len() {
-        v = digit_step(v, s[i]);
-        i += 1;
+    for byte in s {
+        v = digit_step(v, *byte);
     }
     v
 }
 
 // Reads a column: a number only if the writer writes these very bytes for it.
+#[tactic(auto, unfolding(column::specs::ColumnState::column_state))]
 pub fn read_column(s: &[u8]) -> ColumnState
     requires { length s.now ≤ 19 }
     ensures { result ≡ column_state s.now }
 {
     let v = number_in(s);
     if holds_number(s, v) {
-        return ColumnState::Number(v);
+        ColumnState::Number(v)
+    } else if copy::all_bytes(s, b' ') {
+        ColumnState::Blank
+    } else {
+        ColumnState::Malformed
     }
-    if copy::all_bytes(s, b' ') {
-        return ColumnState::Blank;
-    }
-    ColumnState::Malformed
 }

@@ -16,35 +16,23 @@ use locate::{ENTRY_SIZE, entry_in, index_of, record_in};
 use record::Shape;
 use recovery::NextStore;
 
-// The bytes of an entry, by value.
-fn load_entry(s: &[u8]) -> [u8; ENTRY_SIZE]
-    requires { length s.now ≡ entry_size }
-    ensures { result ≡ s.now }
-{
-    let mut entry = [0u8; ENTRY_SIZE];
-    let mut i: usize = 0;
-    while i < ENTRY_SIZE {
-        entry[i] = s[i];
-        i += 1;
-    }
-    entry
-}
-
 // Writes the donor's entry of slot k over that of replica c. Both are cards.
+#[tactic(auto, using(recovery::proofs::OffsetLaws::entry_room, slices::proofs::SpliceLaws::spliced_copy))]
 fn copy_entry(cluster: &mut [u8], shape: Shape, c: usize, k: usize, donor: usize)
     requires { (shape.m ≤ 64) × (k < shape.m) × CardFits shape (length cluster.old) c × CardFits shape (length cluster.old) donor }
     ensures { cluster.new ≡ spliced cluster.old (image_at shape c + entry_at shape k)
         (part cluster.old (image_at shape donor + entry_at shape k) entry_size) }
 {
     let from = entry_in(shape, donor, k);
-    let from_end = from + ENTRY_SIZE;
-    let entry = load_entry(&cluster[from..from_end]);
+    // By value: both entries are parts of one buffer.
+    let mut entry = [0u8; ENTRY_SIZE];
+    entry.copy_from_slice(&cluster[from..from + ENTRY_SIZE]);
     let to = entry_in(shape, c, k);
-    let to_end = to + ENTRY_SIZE;
-    write::write_entry_bytes(&mut cluster[to..to_end], &entry);
+    write::write_entry_bytes(&mut cluster[to..to + ENTRY_SIZE], &entry);
 }
 
 // Writes the record of slot k of replica c for an epoch, as in a log that begins at index `first`.
+#[tactic(auto, using(recovery::proofs::OffsetLaws::record_room))]
 fn write_record(cluster: &mut [u8], shape: Shape, first: u32, c: usize, k: usize, epoch: u32)
     requires { (shape.m ≤ 64) × (k < shape.m) × ImageFits shape (length cluster.old) c }
     ensures { cluster.new ≡ spliced cluster.old (image_at shape c + record_at shape k) (record_bytes epoch (index first k)) }
@@ -54,6 +42,7 @@ fn write_record(cluster: &mut [u8], shape: Shape, first: u32, c: usize, k: usize
 }
 
 // Blanks the record of slot k of replica c.
+#[tactic(auto, using(recovery::proofs::OffsetLaws::record_room))]
 fn blank_record(cluster: &mut [u8], shape: Shape, c: usize, k: usize)
     requires { (shape.m ≤ 64) × (k < shape.m) × ImageFits shape (length cluster.old) c }
     ensures { cluster.new ≡ spliced cluster.old (image_at shape c + record_at shape k) blank_record }
@@ -63,6 +52,7 @@ fn blank_record(cluster: &mut [u8], shape: Shape, c: usize, k: usize)
 }
 
 // Makes a store on a replica whose log begins at index `first`.
+#[tactic(auto, unfolding(protocol::specs::Recovery::after, protocol::specs::StepBytes::after_store_bytes))]
 pub fn make_store(cluster: &mut [u8], shape: Shape, first: u32, store: NextStore)
     requires m_bound { (shape.m ≤ 64) × StoreFits shape (length cluster.old) store }
     requires begins_at { BeginsAt shape cluster.old store first }

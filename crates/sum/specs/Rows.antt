@@ -2,18 +2,18 @@
 use Rattle.std.specs.Prelude.{ℕ, ◌+◌, ◌*◌, List, get_or}
 use Rattle.sum.specs.declared.eight.Eight.{Eight}
 
--- the eight bytes from i on
-unfoldable pub row_at : List ℕ → ℕ → Eight
-row_at s i =
+-- eight bytes
+unfoldable pub row_of : List ℕ → Eight
+row_of s =
     record {
-      p0 = get_or s i 0;
-      p1 = get_or s (i + 1) 0;
-      p2 = get_or s (i + 2) 0;
-      p3 = get_or s (i + 3) 0;
-      p4 = get_or s (i + 4) 0;
-      p5 = get_or s (i + 5) 0;
-      p6 = get_or s (i + 6) 0;
-      p7 = get_or s (i + 7) 0;
+      p0 = get_or s 0 0;
+      p1 = get_or s 1 0;
+      p2 = get_or s 2 0;
+      p3 = get_or s 3 0;
+      p4 = get_or s 4 0;
+      p5 = get_or s 5 0;
+      p6 = get_or s 6 0;
+      p7 = get_or s 7 0;
     }
 
 -- x in the first place, 0 in the others

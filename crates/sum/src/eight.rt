@@ -1,6 +1,9 @@
-// Eight sums side by side, one for each place in a row of eight bytes. None waits for another, so a processor may add all at once.
-ghost use Rattle.std.specs.Prelude.{◌≡◌, ◌+◌, ◌*◌, ◌-◌, ◌<◌, ◌≤◌, length, get_or};
-ghost use Rattle.sum.specs.Rows.{row_at, alone, added, total_of, weighted_of};
+// Eight sums side by side, one for each place in a row of eight bytes. None waits for another, so a processor may add all at once: they are
+// fields of a struct by value, which the compiler keeps in vectors, and not an array.
+ghost use Rattle.std.specs.Prelude.{◌≡◌, ◌+◌, ◌*◌, ◌-◌, ◌<◌, ◌≤◌};
+ghost use Rattle.sum.specs.Rows.{row_of, alone, added, total_of, weighted_of};
+
+use std::ops::Add;
 
 #[derive(Clone, Copy)]
 pub struct Eight {
@@ -30,44 +33,41 @@ pub fn first_only(x: u32) -> Eight
     }
 }
 
-// The row of bytes that begins at i.
-pub fn bytes_at(s: &[u8], i: usize) -> Eight
-    requires { i + 8 ≤ length s.now }
-    ensures { (result ≡ row_at s.now i) × (total_of result ≤ 2040) }
+// A row of bytes.
+pub fn bytes_of(row: &[u8; 8]) -> Eight
+    ensures { (result ≡ row_of row.now) × (total_of result ≤ 2040) }
 {
     Eight {
-        p0: byte_at(s, i),
-        p1: byte_at(s, i + 1),
-        p2: byte_at(s, i + 2),
-        p3: byte_at(s, i + 3),
-        p4: byte_at(s, i + 4),
-        p5: byte_at(s, i + 5),
-        p6: byte_at(s, i + 6),
-        p7: byte_at(s, i + 7),
+        p0: u32::from(row[0]),
+        p1: u32::from(row[1]),
+        p2: u32::from(row[2]),
+        p3: u32::from(row[3]),
+        p4: u32::from(row[4]),
+        p5: u32::from(row[5]),
+        p6: u32::from(row[6]),
+        p7: u32::from(row[7]),
     }
 }
 
-fn byte_at(s: &[u8], i: usize) -> u32
-    requires { i < length s.now }
-    ensures { (result ≡ get_or s.now i 0) × (result < 256) }
-{
-    s[i] as u32
-}
-
 // Added place by place.
-pub fn plus(x: Eight, y: Eight) -> Eight
-    requires { total_of x + total_of y < 4294967296 }
-    ensures { result ≡ added x y }
-{
-    Eight {
-        p0: x.p0 + y.p0,
-        p1: x.p1 + y.p1,
-        p2: x.p2 + y.p2,
-        p3: x.p3 + y.p3,
-        p4: x.p4 + y.p4,
-        p5: x.p5 + y.p5,
-        p6: x.p6 + y.p6,
-        p7: x.p7 + y.p7,
+impl Add for Eight {
+    type Output = Eight;
+
+    ghost can_add = { λ x y. total_of x + total_of y < 4294967296 };
+
+    ghost add_gives = { λ x y r. r ≡ added x y };
+
+    fn add(self, other: Eight) -> Eight {
+        Eight {
+            p0: self.p0 + other.p0,
+            p1: self.p1 + other.p1,
+            p2: self.p2 + other.p2,
+            p3: self.p3 + other.p3,
+            p4: self.p4 + other.p4,
+            p5: self.p5 + other.p5,
+            p6: self.p6 + other.p6,
+            p7: self.p7 + other.p7,
+        }
     }
 }
 

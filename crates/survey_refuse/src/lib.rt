@@ -12,19 +12,14 @@ use record::Shape;
 use survey_sets::{contains, is_within};
 
 // Refusals 1, 2, 3, 11 and 22: what is named, and the size of the buffer.
+#[tactic(auto, using(crate::proofs::RefusalLaws::shape_is, image::proofs::CallLaws::size_high, planner::proofs::ShapeLaws::cluster_fits), unfolding(planner::specs::Sets::is_within, image::specs::View::is_slots))]
 pub fn shape_refusal(size: usize, shape: Shape, present: u32) -> u8
     ensures { result ≡ shape_refusal shape present size }
 {
-    if shape.m < 1 {
+    if shape.m < 1 || MAX_SLOTS < shape.m {
         return refusal::SLOT_COUNT;
     }
-    if MAX_SLOTS < shape.m {
-        return refusal::SLOT_COUNT;
-    }
-    if !vet::is_size(shape.n) {
-        return refusal::REPLICA_COUNT;
-    }
-    if !vet::is_edition(shape.edition) {
+    if !vet::is_size(shape.n) || !vet::is_edition(shape.edition) {
         return refusal::REPLICA_COUNT;
     }
     if size != image_at(shape, shape.n) {
@@ -40,41 +35,36 @@ pub fn shape_refusal(size: usize, shape: Shape, present: u32) -> u8
 }
 
 // Refusal 12: the leader's number, from 1, is out of range, or the replica is not readable, or a witness.
+#[tactic(auto, unfolding(planner::specs::Survey::leader_test, image::specs::Refusal::refuse, image::specs::View::is_replica))]
 pub fn leader_refusal(readable: u32, witnesses: u32, n: usize, leading: usize) -> u8
     requires { n ≤ 7 }
     ensures { result ≡ leader_test readable witnesses n leading }
 {
-    if leading < 1 {
-        return refusal::LEADER;
+    let is_replica = 1 <= leading && leading <= n;
+    if is_replica && contains(readable, leading - 1) && !contains(witnesses, leading - 1) {
+        refusal::NONE
+    } else {
+        refusal::LEADER
     }
-    if n < leading {
-        return refusal::LEADER;
-    }
-    if !contains(readable, leading - 1) {
-        return refusal::LEADER;
-    }
-    if contains(witnesses, leading - 1) {
-        return refusal::LEADER;
-    }
-    refusal::NONE
+}
+
+// Whether the logs of all readable replicas begin at the leader's first index. The leader counts from 0.
+fn same_firsts(readable: u32, firsts: &[u32; MAX_REPLICAS], n: usize, leader: usize) -> bool
+    requires { (n ≤ 7) × (leader < n) }
+    ensures { result ≡ same_numbers n leader readable firsts.now }
+{
+    (0..n).all(|c| !contains(readable, c) || firsts[c] == firsts[leader])
 }
 
 // Refusal 21: the log of a readable replica begins at another index than the leader's. The leader counts from 0.
+#[tactic(auto, unfolding(image::specs::Refusal::refuse))]
 pub fn firsts_refusal(readable: u32, firsts: &[u32; MAX_REPLICAS], n: usize, leader: usize) -> u8
     requires { (n ≤ 7) × (leader < n) }
     ensures { result ≡ refuse 21 (not (same_numbers n leader readable firsts.now)) }
 {
-    let first = firsts[leader];
-    let mut c: usize = 0;
-    'replicas: while c < n {
-        if !contains(readable, c) {
-            c += 1;
-            continue 'replicas;
-        }
-        if firsts[c] != first {
-            return refusal::FIRST_DIFFERS;
-        }
-        c += 1;
+    if same_firsts(readable, firsts, n, leader) {
+        refusal::NONE
+    } else {
+        refusal::FIRST_DIFFERS
     }
-    refusal::NONE
 }

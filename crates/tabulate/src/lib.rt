@@ -1,7 +1,7 @@
 // The rows of the planner's table.
 #![tactic(auto)]
 
-ghost use Rattle.std.specs.Prelude.{ℕ, ◌<◌, ◌≤◌, ◌≡◌, true, length, get_or, take};
+ghost use Rattle.std.specs.Prelude.{ℕ, ◌+◌, ◌-◌, ◌<◌, ◌≤◌, ◌≡◌, true, cond, eqb, length, get_or, take};
 ghost use Rattle.search.specs.Sets.{has};
 ghost use Rattle.planner.specs.Tabulated.{number_row, no_row, front_rows};
 ghost use Rattle.search.specs.Search.{listed};
@@ -9,7 +9,6 @@ ghost use Rattle.search.specs.Search.{listed};
 use image::{MAX_REPLICAS, MAX_SLOTS};
 use planner::{PlanAnswer, ReplicaRow, SURVEY_SLOTS};
 use survey_sets::contains;
-use view::last_epoch;
 
 // What the planner found: its answer, how many rows there are to fill (none if it refused), and the rows.
 #[derive(Clone, Copy)]
@@ -17,6 +16,17 @@ pub struct PlanOutcome {
     pub answer: PlanAnswer,
     pub count: usize,
     pub rows: [ReplicaRow; MAX_REPLICAS],
+}
+
+// The epoch of the last of so many used slots, whose epochs begin at `from`; 0 if there is none.
+fn last_epoch(epochs: &[u32], from: usize, used: usize) -> u32
+    requires { from + used ≤ length epochs.now }
+    ensures { result ≡ cond (eqb used 0) 0 (get_or epochs.now (from + used - 1) 0) }
+{
+    if used == 0 {
+        return 0;
+    }
+    epochs[from + used - 1]
 }
 
 // The row of replica c.
@@ -68,10 +78,8 @@ pub fn survey_rows<'a>(
     ensures rows { take n result ≡ listed n (number_row readable lengths.now epochs.now) }
 {
     let mut rows = no_rows();
-    let mut c: usize = 0;
-    while c < n {
+    for c in 0..n {
         rows[c] = replica_row(readable, lengths, epochs, c);
-        c += 1;
     }
     rows
 }
@@ -89,9 +97,7 @@ pub fn fill_rows(rows: &mut [ReplicaRow], found: PlanOutcome, count: usize)
     requires { (length found.rows ≡ 7) × (count ≤ 7) × (count ≤ length rows.old) }
     ensures { rows.new ≡ front_rows count found.rows rows.old }
 {
-    let mut c: usize = 0;
-    while c < count {
+    for c in 0..count {
         rows[c] = outcome_row(found, c);
-        c += 1;
     }
 }

@@ -1,89 +1,70 @@
 // Refusals of what the scan of an image holds: 5 to 7; the length of its log.
 #![tactic(auto)]
 
-ghost use Rattle.std.specs.Prelude.{◌≤◌, ◌≡◌, not};
-ghost use Rattle.image.specs.Scan.{length_in, no_gap_in, none_lost_in, rising_in, scan_refusal};
+ghost use Rattle.std.specs.Prelude.{◌≤◌, ◌≡◌, length};
+ghost use Rattle.image.specs.Refusal.{refusal_of};
+ghost use Rattle.image.specs.Scan.{length_in, gap_in, lost_in, falls_in, scan_refusal};
 
-use image::{MAX_SLOTS, condition, refusal};
+use image::condition::Slot;
+use image::refusal::Refusal;
 
 // The log's length: the first slot that is unused.
-pub fn log_length(conditions: &[u8; MAX_SLOTS], m: usize) -> usize
-    requires { m ≤ 64 }
-    ensures { result ≡ length_in m conditions.now }
+pub fn log_length(slots: &[Slot]) -> usize
+    ensures { result ≡ length_in slots.now }
 {
-    let mut k: usize = 0;
-    while k < m {
-        if conditions[k] == condition::UNUSED {
+    for (k, slot) in slots.iter().enumerate() {
+        if slot.condition.is_unused() {
             return k;
         }
-        k += 1;
     }
-    k
+    slots.len()
 }
 
 // Whether a slot behind the log's end is used.
-fn has_gap(conditions: &[u8; MAX_SLOTS], m: usize, length: usize) -> bool
-    requires { (m ≤ 64) × (length ≤ m) }
-    ensures { result ≡ not (no_gap_in m length conditions.now) }
+#[tactic(auto, unfolding(image::specs::Scan::gap_in))]
+fn has_gap(slots: &[Slot], used: usize) -> bool
+    requires { used ≤ length slots.now }
+    ensures { result ≡ gap_in used slots.now }
 {
-    let mut k = length;
-    while k < m {
-        if conditions[k] != condition::UNUSED {
-            return true;
-        }
-        k += 1;
-    }
-    false
+    slots
+        .iter()
+        .skip(used)
+        .any(|slot| !slot.condition.is_unused())
 }
 
 // Whether a slot has lost both its record and its entry.
-fn has_lost(conditions: &[u8; MAX_SLOTS], m: usize) -> bool
-    requires { m ≤ 64 }
-    ensures { result ≡ not (none_lost_in m conditions.now) }
+#[tactic(auto, unfolding(image::specs::Scan::lost_in))]
+fn has_lost(slots: &[Slot]) -> bool
+    ensures { result ≡ lost_in slots.now }
 {
-    let mut k: usize = 0;
-    while k < m {
-        if conditions[k] == condition::LOST {
-            return true;
-        }
-        k += 1;
-    }
-    false
+    slots.iter().any(|slot| slot.condition.is_lost())
 }
 
 // Whether a used slot's epoch is below the one before it.
-fn falls(epochs: &[u32; MAX_SLOTS], m: usize, length: usize) -> bool
-    requires { (m ≤ 64) × (length ≤ m) }
-    ensures { result ≡ not (rising_in m length epochs.now) }
+fn falls(used: &[Slot]) -> bool
+    ensures { result ≡ falls_in used.now }
 {
-    let mut k: usize = 0;
-    while k + 1 < length {
-        if epochs[k + 1] < epochs[k] {
+    for k in 1..used.len() {
+        if used[k].epoch < used[k - 1].epoch {
             return true;
         }
-        k += 1;
     }
     false
 }
 
 // Refusals 5 to 7, each over the whole image.
-pub fn scan_refusal(
-    conditions: &[u8; MAX_SLOTS],
-    epochs: &[u32; MAX_SLOTS],
-    m: usize,
-    length: usize,
-) -> u8
-    requires { (m ≤ 64) × (length ≤ m) }
-    ensures { result ≡ scan_refusal m length conditions.now epochs.now }
+pub fn vet_scan(slots: &[Slot], used: usize) -> Result<(), Refusal>
+    requires { used ≤ length slots.now }
+    ensures { refusal_of result ≡ scan_refusal used slots.now }
 {
-    if has_gap(conditions, m, length) {
-        return refusal::USED_AFTER_BLANK;
+    if has_gap(slots, used) {
+        return Err(Refusal::UsedAfterBlank);
     }
-    if has_lost(conditions, m) {
-        return refusal::BOTH_LOST;
+    if has_lost(slots) {
+        return Err(Refusal::BothLost);
     }
-    if falls(epochs, m, length) {
-        return refusal::EPOCH_FALLS;
+    if falls(&slots[..used]) {
+        return Err(Refusal::EpochFalls);
     }
-    refusal::NONE
+    Ok(())
 }

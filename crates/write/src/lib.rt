@@ -6,9 +6,7 @@ ghost use Rattle.slices.specs.Parts.{spliced};
 ghost use Rattle.record.specs.Layout.{record_size, entry_size, max_payload, record_bytes, blank_record, entry_bytes, fresh_entry};
 ghost use Rattle.record.specs.Seal.{seal_of};
 
-use locate::{
-    BLANK_SIZE, ENTRY_SIZE, FRONT_SIZE, INDEX_AT, LENGTH_WIDTH, NUMBER_WIDTH, PAYLOAD_AT,
-};
+use locate::{BLANK_SIZE, FRONT_SIZE, INDEX_AT, LENGTH_WIDTH, NUMBER_WIDTH, PAYLOAD_AT};
 
 // Writes the checksum of what stands before `at`, and a newline.
 pub fn put_seal(s: &mut [u8], at: usize)
@@ -58,11 +56,7 @@ pub fn write_entry_bytes(s: &mut [u8], entry: &[u8])
     requires { (length s.old ≡ entry_size) × (length entry.now ≡ entry_size) }
     ensures { s.new ≡ entry.now }
 {
-    let mut i: usize = 0;
-    while i < ENTRY_SIZE {
-        s[i] = entry[i];
-        i += 1;
-    }
+    s.copy_from_slice(entry);
 }
 
 // Writes a fresh entry.

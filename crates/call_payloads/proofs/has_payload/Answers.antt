@@ -1,17 +1,16 @@
-use Rattle.call_payloads.proofs.PayloadCallLaws.{has_at, has_present, has_absent, has_refused}
+use Rattle.call_payloads.proofs.PayloadCallLaws.{has_at, has_found, has_refused}
+use Rattle.call_payloads.specs.Payloads.{flag}
 use mathlib.Core.Path.{sym, ap, ◌∙◌}
-use Rattle.image.specs.Answers.{payload_numbers}
+use borrow.Author.Rules.{rules}
+use Rattle.image.specs.Answers.{numbers}
 use native.Mathlib.Omega.{arith}
 use Rattle.call_payloads.proofs.has_payload.Goals as goal
 
-pub returns-in-Present : goal.returns-in-Present
-returns-in-Present c =
-    has_present _ _ _ (ap payload_numbers (sym c.in-Present.is) ∙ has_at _ _ _ _ _ c.has_payload.ensures (omega arith)) (omega arith)
+pub returns-in-Ok : goal.returns-in-Ok
+unfolding flag
+returns-in-Ok c =
+    has_found _ _ _ c.in-Ok.found (ap numbers (sym c.in-Ok.is) ∙ has_at _ _ _ _ _ c.has_payload.ensures (omega arith)) (search rules)
 
-pub returns-in-Absent : goal.returns-in-Absent
-returns-in-Absent c =
-    has_absent _ _ _ (ap payload_numbers (sym c.in-Absent.is) ∙ has_at _ _ _ _ _ c.has_payload.ensures (omega arith)) (omega arith)
-
-pub returns-in-Refused : goal.returns-in-Refused
-returns-in-Refused c =
-    has_refused _ _ _ _ (ap payload_numbers (sym c.in-Refused.is) ∙ has_at _ _ _ _ _ c.has_payload.ensures (omega arith))
+pub returns-in-Err : goal.returns-in-Err
+returns-in-Err c =
+    has_refused _ _ _ _ (ap numbers (sym c.in-Err.is) ∙ has_at _ _ _ _ _ c.has_payload.ensures (omega arith)) c.refusal_number.ensures

@@ -1,22 +1,6 @@
-use Rattle.image.specs.Cluster.{image_at}
-use Rattle.image.specs.View.{named_refusal}
-use native.Mathlib.Omega.{arith}
-use Rattle.call_sizes.proofs.SizeLaws.{few_slots, few_replicas, replica_from, replica_to, offset_small, of, is_refused, is_measured}
+use Rattle.call_sizes.proofs.SizeLaws.{is_measured}
 use Rattle.call_sizes.proofs.image_at.Goals as goal
-
-pub returns-then-unplaced-ne0 : goal.returns-then-unplaced-ne0
-returns-then-unplaced-ne0 c =
-    is_refused _ _ _ _ (of (named_refusal _) _ c.named_refusal-unplaced.ensures (omega arith)) (λ e. omega (arith, e, c.if-unplaced-ne0.true)) c.refused.ensures
-
-pub overflow_sub-replica : goal.overflow_sub-replica
-overflow_sub-replica c =
-    omega (arith, replica_from _ _ c.named_refusal-unplaced.ensures (omega (arith, c.if-unplaced-ne0.false)))
-
-pub image_at-requires : goal.image_at-requires
-image_at-requires c =
-    let e = c.named_refusal-unplaced.ensures in
-    (few_slots _ _ e (omega (arith, c.if-unplaced-ne0.false)), offset_small _ _ e (omega (arith, c.if-unplaced-ne0.false)) _ (omega (arith, few_replicas _ _ e (omega (arith, c.if-unplaced-ne0.false)), replica_to _ _ e (omega (arith, c.if-unplaced-ne0.false)))))
 
 pub returns : goal.returns
 returns c =
-    is_measured _ _ _ _ _ (of (named_refusal _) _ c.named_refusal-unplaced.ensures (omega arith)) (omega (arith, c.if-unplaced-ne0.false)) c.measured.ensures (of (image_at _) _ c.image_at.ensures (omega arith))
+    is_measured _ _ c.find_image.result c.measured.result c.find_image.ensures c.measured.ensures

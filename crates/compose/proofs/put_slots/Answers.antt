@@ -1,17 +1,16 @@
 use Prim.Native.Nat.{◌-◌}
 use Rattle.report.proofs.LineLaws as law
-use borrow.Author.Rules.{rules}
 use native.Mathlib.Omega.{arith}
 use Rattle.compose.proofs.put_slots.Goals as goal
 
 pub loop-k-init : goal.loop-k-init
 loop-k-init c =
-    (search rules, law.lines_start _ _ _ _ c.requires.0)
+    law.lines_start _ _ _ _ c.requires.0
 
 pub loop-k-preserved : goal.loop-k-preserved
 loop-k-preserved c =
-    (search rules, law.lines_step _ _ _ _ c.requires.0 _ (omega arith) c.loop-k.invariant.1 c.put_slot.ensures)
+    law.lines_step _ _ _ _ c.requires.0 _ (omega arith) c.loop-k.invariant c.put_slot.ensures
 
 pub returns : goal.returns
 returns c =
-    law.lines_end _ _ _ _ c.requires.0 _ _ c.loop-k.invariant.0 c.loop-k-test.false c.loop-k.invariant.1
+    law.lines_end _ _ _ _ c.requires.0 _ _ (omega arith) c.loop-k-test.false c.loop-k.invariant

@@ -1,12 +1,8 @@
--- `fill_bytes` fills from the front: i bytes are v, and the others as they were.
-use Prim.Native.Nat.{◌-◌, ◌≤◌}
+-- `fill_bytes` fills from the front: so many bytes are v, and the others as they were.
 use mathlib.Core.Path.{◌≡◌}
 use mathlib.Core.List.{◌++◌}
-use lib.ListN.{length, drop, replicate}
+use lib.ListN.{drop, replicate}
 use Rattle.copy.proofs.fill_bytes.Given as goal
 
-abbrev pub invariant-loop-i : goal.invariant-loop-i
-invariant-loop-i l = (l.i ≤ length l.initial.s) × (length l.s ≡ length l.initial.s) × (l.s ≡ replicate l.i l.v ++ drop l.i l.initial.s)
-
-abbrev pub decreases-loop-i : goal.decreases-loop-i
-decreases-loop-i l = length l.initial.s - l.i
+abbrev pub invariant-loop-x : goal.invariant-loop-x
+invariant-loop-x l = l.s ≡ replicate l.x-index l.v ++ drop l.x-index l.initial.s

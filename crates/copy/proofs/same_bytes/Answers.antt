@@ -1,7 +1,5 @@
-use Prim.Native.Nat.{◌-◌}
 use mathlib.Core.Path.{sym, ◌∙◌}
 use native.Mathlib.Omega.{arith}
-use borrow.Author.Rules.{rules}
 use Rattle.slices.proofs.SameLaws.{same_lengths}
 use Rattle.slices.proofs.LoopLaws.{same_step, same_end}
 use Rattle.copy.proofs.same_bytes.Goals as goal
@@ -12,8 +10,8 @@ returns-then-a-b c =
 
 pub loop-i-preserved : goal.loop-i-preserved
 loop-i-preserved c =
-    (search rules, search rules, sym (same_step c.loop-i.differing c.args.a.now c.args.b.now c.loop-i.i (omega arith) (omega arith)) ∙ c.loop-i.invariant.2)
+    (c.loop-i.invariant.0, sym (same_step c.loop-i.differing c.args.a.now c.args.b.now c.loop-i.i (omega arith) (omega arith)) ∙ c.loop-i.invariant.1)
 
 pub returns : goal.returns
 returns c =
-    sym (same_end c.loop-i.differing c.args.a.now c.args.b.now c.loop-i.i (omega arith) (omega arith)) ∙ c.loop-i.invariant.2
+    sym (same_end c.loop-i.differing c.args.a.now c.args.b.now c.loop-i.i (omega arith) (omega arith)) ∙ c.loop-i.invariant.1

@@ -1,5 +1,4 @@
 -- `same_bytes` compares to the end: what is left to compare, and whether anything differed, decide the whole.
-use Prim.Native.Nat.{◌-◌, ◌≤◌}
 use mathlib.Core.Path.{◌≡◌}
 use mathlib.Core.Bool.{◌&&◌}
 use lib.Dec.{eqb}
@@ -9,7 +8,4 @@ use Rattle.copy.proofs.same_bytes.Given as goal
 
 abbrev pub invariant-loop-i : goal.invariant-loop-i
 invariant-loop-i l =
-    (l.i ≤ length l.a) × (length l.a ≡ length l.b) × ((eqb l.differing 0 && same (drop l.i l.a) (drop l.i l.b)) ≡ same l.a l.b)
-
-abbrev pub decreases-loop-i : goal.decreases-loop-i
-decreases-loop-i l = length l.a - l.i
+    (length l.a ≡ length l.b) × ((eqb l.differing 0 && same (drop l.i l.a) (drop l.i l.b)) ≡ same l.a l.b)

@@ -1,21 +1,15 @@
-use Prim.Native.Nat.{◌-◌}
-use mathlib.Core.Path.{sym, ◌∙◌}
-use Rattle.planner.proofs.SetLaws.{set_none, set_in, set_out, set_end}
-use borrow.Author.Rules.{rules}
+use Rattle.std.proofs.Common.{rules, tests, ◌∙◌, arith}
+use Rattle.std.proofs.lemmas.Iterator.{YieldsList-from_range}
+use Rattle.std.proofs.lemmas.Iterator.Consumers.{fold_from_yields_List, YieldsList-from_filter}
+use Rattle.planner.specs.Rules.{dont_have}
+use Rattle.planner.specs.Sets.{inserted}
+use Rattle.planner.specs.Survey.{survey_setting, survey_views}
+use Rattle.decide_answers.proofs.SetLaws.{set_gathered}
 use Rattle.decide_answers.proofs.lacking.Goals as goal
-
-pub replicas-init : goal.replicas-init
-replicas-init c =
-    (search rules, λ l. set_none _)
-
-pub replicas-preserved-then-not-lacks_slot : goal.replicas-preserved-then-not-lacks_slot
-replicas-preserved-then-not-lacks_slot c =
-    (search rules, λ l. set_out _ _ (c.replicas.invariant.1 l) (sym (c.lacks_slot.ensures _ l) ∙ c.if-not-lacks_slot.true))
-
-pub replicas-preserved : goal.replicas-preserved
-replicas-preserved c =
-    (search rules, λ l. c.insert-set.ensures ∙ set_in _ _ (c.replicas.invariant.1 l) (sym (c.lacks_slot.ensures _ l) ∙ c.if-not-lacks_slot.false))
 
 pub returns : goal.returns
 returns c =
-    λ l. set_end _ _ _ c.replicas.invariant.0 c.replicas-test.false (c.replicas.invariant.1 l)
+    λ l.
+    let a = c.args in
+    let lacks = dont_have (survey_setting a.n a.leader) (survey_views l a.readable a.conditions.now a.epochs.now) a.k in
+    fold_from_yields_List _ inserted 0 _ c.fold.ensures.ran (YieldsList-from_filter _ lacks (YieldsList-from_range 0 a.n a.n (search rules) (omega arith)) c.filter.ensures.closure (λ x b q h. search (rules, tests))) (λ s x b q h. search (rules, tests)) ∙ set_gathered lacks a.n

@@ -1,12 +1,7 @@
-use native.Mathlib.Omega.{arith}
-use lib.Count.{ones-le}
+use Rattle.std.proofs.Common.{arith}
 use Rattle.planner.specs.Rules.{majority}
 use Rattle.planner.proofs.MajorityLaws.{ones_fit, truncates}
 use Rattle.decide_answers.proofs.may_truncate.Goals as goal
-
-pub overflow_cast-holders : goal.overflow_cast-holders
-overflow_cast-holders c =
-    omega (arith, ones-le 32 c.lacking-set.result (omega arith))
 
 pub overflow_sub-holders : goal.overflow_sub-holders
 overflow_sub-holders c =

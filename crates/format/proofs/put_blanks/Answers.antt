@@ -1,5 +1,4 @@
-use Prim.Native.Nat.{◌-◌}
-use mathlib.Core.Path.{◌≡◌, ◌∙◌}
+use mathlib.Core.Path.{◌∙◌}
 use native.Mathlib.Omega.{arith}
 use Rattle.record.specs.Layout.{header_size, blank_record}
 use Rattle.record.proofs.LayoutLaws.{length_blank}
@@ -9,26 +8,15 @@ use Rattle.format.proofs.put_blanks.Goals as goal
 
 pub loop-k-init : goal.loop-k-init
 loop-k-init c =
-    (omega arith, fill_start _ _ 34 blank_record length_blank)
+    fill_start _ _ 34 blank_record length_blank
 
 pub put_blank-requires : goal.put_blank-requires
 put_blank-requires c =
     let w = c.loop-k in
-    let l = fill_length c.args.image.now (header_size c.args.shape) 34 blank_record length_blank w.k w.invariant.1 (omega arith) in
+    let l = fill_length c.args.image.now (header_size c.args.shape) 34 blank_record length_blank w.k w.invariant (omega arith) in
     omega (arith, record_begins c.args.shape w.k)
 
 pub loop-k-preserved : goal.loop-k-preserved
 loop-k-preserved c =
     let w = c.loop-k in
-    (omega arith, fill_step c.args.image.now (header_size c.args.shape) 34 blank_record length_blank w.k (c.record_at.ensures ∙ record_begins c.args.shape w.k) w.invariant.1 c.put_blank.ensures (omega arith))
-
-pub shape_of-image : goal.shape_of-image
-shape_of-image c =
-    let w = c.loop-k in
-    fill_length c.args.image.now (header_size c.args.shape) 34 blank_record length_blank w.k w.invariant.1 (omega arith)
-
-pub returns : goal.returns
-returns c =
-    let w = c.loop-k in
-    let q : w.k ≡ c.args.shape.m = omega arith in
-    rw q at w.invariant.1
+    fill_step c.args.image.now (header_size c.args.shape) 34 blank_record length_blank w.k (c.record_at.ensures ∙ record_begins c.args.shape w.k) w.invariant c.put_blank.ensures (omega arith)

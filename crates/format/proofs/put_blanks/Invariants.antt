@@ -1,5 +1,4 @@
 -- `put_blanks` leaves k blank records behind the header after k rounds.
-use Prim.Native.Nat.{◌-◌, ◌≤◌}
 use mathlib.Core.Path.{◌≡◌}
 use Rattle.search.specs.Search.{joined}
 use Rattle.slices.specs.Parts.{spliced}
@@ -7,7 +6,4 @@ use Rattle.record.specs.Layout.{header_size, blank_record}
 use Rattle.format.proofs.put_blanks.Given as goal
 
 abbrev pub invariant-loop-k : goal.invariant-loop-k
-invariant-loop-k l = (l.k ≤ l.m) × (l.image ≡ spliced l.initial.image (header_size l.shape) (joined l.k (λ j. blank_record)))
-
-abbrev pub decreases-loop-k : goal.decreases-loop-k
-decreases-loop-k l = l.m - l.k
+invariant-loop-k l = l.image ≡ spliced l.initial.image (header_size l.shape) (joined l.k (λ j. blank_record))

@@ -1,5 +1,5 @@
-use Prim.Native.Nat.{◌+◌, ◌-◌, ◌*◌}
-use mathlib.Core.Path.{◌≡◌, ◌∙◌}
+use Prim.Native.Nat.{◌+◌, ◌*◌}
+use mathlib.Core.Path.{◌∙◌}
 use native.Mathlib.Omega.{arith}
 use Rattle.record.specs.Layout.{header_size, fresh_entry}
 use Rattle.record.proofs.LayoutLaws.{length_fresh}
@@ -9,26 +9,15 @@ use Rattle.format.proofs.put_freshes.Goals as goal
 
 pub loop-k-init : goal.loop-k-init
 loop-k-init c =
-    (omega arith, fill_start _ _ 240 fresh_entry length_fresh)
+    fill_start _ _ 240 fresh_entry length_fresh
 
 pub put_fresh-requires : goal.put_fresh-requires
 put_fresh-requires c =
     let w = c.loop-k in
-    let l = fill_length c.args.image.now (header_size c.args.shape + 34 * c.args.shape.m) 240 fresh_entry length_fresh w.k w.invariant.1 (omega arith) in
+    let l = fill_length c.args.image.now (header_size c.args.shape + 34 * c.args.shape.m) 240 fresh_entry length_fresh w.k w.invariant (omega arith) in
     omega (arith, entry_begins c.args.shape w.k)
 
 pub loop-k-preserved : goal.loop-k-preserved
 loop-k-preserved c =
     let w = c.loop-k in
-    (omega arith, fill_step c.args.image.now (header_size c.args.shape + 34 * c.args.shape.m) 240 fresh_entry length_fresh w.k (c.entry_at.ensures ∙ entry_begins c.args.shape w.k) w.invariant.1 c.put_fresh.ensures (omega arith))
-
-pub shape_of-image : goal.shape_of-image
-shape_of-image c =
-    let w = c.loop-k in
-    fill_length c.args.image.now (header_size c.args.shape + 34 * c.args.shape.m) 240 fresh_entry length_fresh w.k w.invariant.1 (omega arith)
-
-pub returns : goal.returns
-returns c =
-    let w = c.loop-k in
-    let q : w.k ≡ c.args.shape.m = omega arith in
-    rw q at w.invariant.1
+    fill_step c.args.image.now (header_size c.args.shape + 34 * c.args.shape.m) 240 fresh_entry length_fresh w.k (c.entry_at.ensures ∙ entry_begins c.args.shape w.k) w.invariant c.put_fresh.ensures (omega arith)

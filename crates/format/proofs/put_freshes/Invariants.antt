@@ -1,5 +1,5 @@
 -- `put_freshes` leaves k fresh entries behind the records after k rounds.
-use Prim.Native.Nat.{◌+◌, ◌-◌, ◌*◌, ◌≤◌}
+use Prim.Native.Nat.{◌+◌, ◌*◌}
 use mathlib.Core.Path.{◌≡◌}
 use Rattle.search.specs.Search.{joined}
 use Rattle.slices.specs.Parts.{spliced}
@@ -7,7 +7,4 @@ use Rattle.record.specs.Layout.{header_size, fresh_entry}
 use Rattle.format.proofs.put_freshes.Given as goal
 
 abbrev pub invariant-loop-k : goal.invariant-loop-k
-invariant-loop-k l = (l.k ≤ l.m) × (l.image ≡ spliced l.initial.image (header_size l.shape + 34 * l.shape.m) (joined l.k (λ j. fresh_entry)))
-
-abbrev pub decreases-loop-k : goal.decreases-loop-k
-decreases-loop-k l = l.m - l.k
+invariant-loop-k l = l.image ≡ spliced l.initial.image (header_size l.shape + 34 * l.shape.m) (joined l.k (λ j. fresh_entry))

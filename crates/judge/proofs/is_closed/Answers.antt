@@ -1,14 +1,13 @@
 -- Behind the seal the spaces decide.
-use mathlib.Core.Bool.{not}
-use mathlib.Core.Path.{ap}
+use mathlib.Core.Path.{◌∙◌}
 use native.Mathlib.Omega.{arith}
-use Rattle.record.proofs.JudgeLaws.{close_unsealed, close_spaces}
+use Rattle.record.proofs.JudgeLaws.{and_first, and_next, close_tests, close_spaces}
 use Rattle.judge.proofs.is_closed.Goals as goal
 
-pub returns-then-not-is_sealed : goal.returns-then-not-is_sealed
-returns-then-not-is_sealed c =
-    close_unsealed c.args.s.now _ c.args.at (omega arith) (omega arith) _ c.is_sealed.ensures (ap not c.if-not-is_sealed.true)
+pub returns-then-is_sealed : goal.returns-then-is_sealed
+returns-then-is_sealed c =
+    and_next _ _ (close_tests c.args.s.now _ c.args.at (omega arith) (omega arith)) c.is_sealed.ensures c.if-is_sealed.true (c.all_bytes.ensures ∙ close_spaces c.args.s.now c.args.at (omega arith) (omega arith))
 
-pub returns : goal.returns
-returns c =
-    close_spaces c.args.s.now _ c.args.at (omega arith) (omega arith) _ _ c.is_sealed.ensures (ap not c.if-not-is_sealed.false) c.all_bytes.ensures
+pub returns-else-is_sealed : goal.returns-else-is_sealed
+returns-else-is_sealed c =
+    and_first _ _ (close_tests c.args.s.now _ c.args.at (omega arith) (omega arith)) c.is_sealed.ensures c.if-is_sealed.false

@@ -1,22 +1,17 @@
 -- No epoch, another epoch, and then the index decides.
-use mathlib.Core.Bool.{not}
-use mathlib.Core.Path.{◌∙◌, ap}
+use mathlib.Core.Path.{◌∙◌}
 use native.Mathlib.Omega.{arith}
-use Rattle.record.proofs.JudgeLaws.{column_here, column_off, column_on, front_epoch_zero, front_epoch_beyond, front_other_epoch, front_index}
+use Rattle.record.proofs.JudgeLaws.{and_first, and_next, column_here, front_no_epoch, front_columns}
 use Rattle.judge.proofs.is_front.Goals as goal
 
 pub returns-then-epoch-lt1 : goal.returns-then-epoch-lt1
 returns-then-epoch-lt1 c =
-    front_epoch_zero _ _ _ c.if-epoch-lt1.true
+    front_no_epoch _ _ _ c.then-epoch-lt1.either
 
-pub returns-then-epoch-gt-LAST_EPOCH : goal.returns-then-epoch-gt-LAST_EPOCH
-returns-then-epoch-gt-LAST_EPOCH c =
-    front_epoch_beyond _ _ _ c.if-epoch-gt-LAST_EPOCH.true
+pub returns-then-holds_number : goal.returns-then-holds_number
+returns-then-holds_number c =
+    and_next _ _ (front_columns _ _ _ (omega arith) (omega arith)) (c.holds_number.ensures ∙ column_here c.args.s.now 0 11 _ (omega arith)) c.if-holds_number.true (c.holds_number-then-holds_number.ensures ∙ column_here c.args.s.now 11 11 _ (omega arith))
 
-pub returns-then-not-holds_number : goal.returns-then-not-holds_number
-returns-then-not-holds_number c =
-    front_other_epoch _ _ _ (column_off c.args.s.now 0 11 _ (omega arith) _ c.holds_number.ensures (ap not c.if-not-holds_number.true))
-
-pub returns : goal.returns
-returns c =
-    c.holds_number-2.ensures ∙ column_here c.args.s.now 11 11 _ (omega arith) ∙ front_index _ _ _ (omega arith) (omega arith) (column_on c.args.s.now 0 11 _ (omega arith) _ c.holds_number.ensures (ap not c.if-not-holds_number.false))
+pub returns-else-holds_number : goal.returns-else-holds_number
+returns-else-holds_number c =
+    and_first _ _ (front_columns _ _ _ (omega arith) (omega arith)) (c.holds_number.ensures ∙ column_here c.args.s.now 0 11 _ (omega arith)) c.if-holds_number.false

@@ -1,9 +1,8 @@
 -- Too long, another front, another length, and then what stands behind the payload decides.
-use mathlib.Core.Bool.{not}
-use mathlib.Core.Path.{◌∙◌, ap}
+use mathlib.Core.Path.{◌∙◌}
 use native.Mathlib.Omega.{arith}
-use Rattle.record.proofs.JudgeLaws.{column_off, column_on}
-use Rattle.record.proofs.EntryJudgeLaws.{intact_too_long, intact_no_front, intact_other_length, intact_close}
+use Rattle.record.proofs.JudgeLaws.{and_first, and_next, column_here}
+use Rattle.record.proofs.EntryJudgeLaws.{intact_too_long, intact_no_front, intact_behind}
 use Rattle.judge.proofs.is_intact.Goals as goal
 
 pub returns-then-size-gt-MAX_PAYLOAD : goal.returns-then-size-gt-MAX_PAYLOAD
@@ -12,12 +11,12 @@ returns-then-size-gt-MAX_PAYLOAD c =
 
 pub returns-then-not-is_front : goal.returns-then-not-is_front
 returns-then-not-is_front c =
-    intact_no_front _ _ _ _ (omega arith) (omega arith) _ c.is_front.ensures (ap not c.if-not-is_front.true)
+    intact_no_front _ _ _ _ (omega arith) (omega arith) c.if-not-is_front.ensures
 
-pub returns-then-not-holds_number : goal.returns-then-not-holds_number
-returns-then-not-holds_number c =
-    intact_other_length _ _ _ _ (omega arith) (omega arith) (column_off c.args.s.now 22 4 _ (omega arith) _ c.holds_number.ensures (ap not c.if-not-holds_number.true))
+pub returns-then-holds_number : goal.returns-then-holds_number
+returns-then-holds_number c =
+    and_next _ _ (intact_behind _ _ _ _ (omega arith) (omega arith) c.if-not-is_front.ensures) (c.holds_number.ensures ∙ column_here c.args.s.now 22 4 _ (omega arith)) c.if-holds_number.true c.is_closed.ensures
 
-pub returns : goal.returns
-returns c =
-    c.is_closed.ensures ∙ intact_close _ _ _ _ (omega arith) (omega arith) _ c.is_front.ensures (ap not c.if-not-is_front.false) (column_on c.args.s.now 22 4 _ (omega arith) _ c.holds_number.ensures (ap not c.if-not-holds_number.false))
+pub returns-else-holds_number : goal.returns-else-holds_number
+returns-else-holds_number c =
+    and_first _ _ (intact_behind _ _ _ _ (omega arith) (omega arith) c.if-not-is_front.ensures) (c.holds_number.ensures ∙ column_here c.args.s.now 22 4 _ (omega arith)) c.if-holds_number.false

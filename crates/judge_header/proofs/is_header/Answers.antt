@@ -1,6 +1,5 @@
 -- No first index; else the bytes decide.
-use mathlib.Core.Bool.{not}
-use mathlib.Core.Path.{sym, ◌∙◌, ap}
+use mathlib.Core.Path.{sym}
 use native.Mathlib.Omega.{arith}
 use Rattle.record.proofs.LayoutLaws.{header_size_high}
 use Rattle.record.proofs.HeaderLaws.{first_high}
@@ -9,7 +8,7 @@ use Rattle.judge_header.proofs.is_header.Goals as goal
 
 pub returns-then-not-is_first : goal.returns-then-not-is_first
 returns-then-not-is_first c =
-    header_no_first _ _ _ _ c.is_first.ensures (omega arith) (ap not c.if-not-is_first.true)
+    header_no_first _ _ _ _ c.is_first.ensures (omega arith) c.if-not-is_first.true
 
 pub slice_bounds-w-end : goal.slice_bounds-w-end
 slice_bounds-w-end c =
@@ -17,8 +16,8 @@ slice_bounds-w-end c =
 
 pub overflow_cast-first : goal.overflow_cast-first
 overflow_cast-first c =
-    omega (arith, first_high _ _ (sym c.is_first.ensures ∙ c.if-not-is_first.false))
+    omega (arith, first_high _ _ (sym c.if-not-is_first.ensures))
 
 pub returns : goal.returns
 returns c =
-    header_bytes_lem _ _ _ _ c.is_first.ensures (omega arith) (ap not c.if-not-is_first.false) (omega arith) (omega arith) c.is_written.ensures
+    header_bytes_lem _ _ _ _ c.is_first.ensures (omega arith) c.if-not-is_first.false (omega arith) (omega arith) c.is_written.ensures

@@ -1,5 +1,5 @@
 -- Only the number in its column can be the first index of a header, so `is_header` is asked for that one.
-use mathlib.Core.Path.{sym, ◌∙◌}
+use mathlib.Core.Path.{sym}
 use native.Mathlib.Omega.{arith}
 use Rattle.record.proofs.HeaderJudgeLaws.{answer_size, answer_proper, answer_improper, header_fits}
 use Rattle.judge_header.proofs.judge_header.Goals as goal
@@ -10,12 +10,12 @@ returns-then-s-header_size c =
 
 pub overflow_cast-result : goal.overflow_cast-result
 overflow_cast-result c =
-    omega (arith, header_fits _ _ _ _ (sym c.is_header.ensures ∙ c.if-is_header.true))
+    omega (arith, header_fits _ _ _ _ (sym c.if-is_header.ensures))
 
 pub returns-then-is_header : goal.returns-then-is_header
 returns-then-is_header c =
-    answer_proper _ _ _ c.first_in-first.ensures (omega arith) (sym c.is_header.ensures ∙ c.if-is_header.true)
+    answer_proper _ _ _ c.first_in-first.ensures (omega arith) (sym c.if-is_header.ensures)
 
 pub returns : goal.returns
 returns c =
-    answer_improper _ _ _ c.first_in-first.ensures (sym c.is_header.ensures ∙ c.if-is_header.false)
+    answer_improper _ _ _ c.first_in-first.ensures (sym c.if-is_header.ensures)

@@ -1,4 +1,4 @@
-use Prim.Native.Nat.{ℕ, suc, ◌+◌, ◌-◌, ◌≤◌, ◌<◌}
+use Prim.Native.Nat.{ℕ, suc, ◌+◌, ◌≤◌, ◌<◌}
 use mathlib.Core.Path.{◌≡◌, sym}
 use native.Mathlib.Omega.{arith}
 use native.Mathlib.Numerals.{add-one}
@@ -21,16 +21,16 @@ ended Z q h = rw q at h
 
 pub loop-d-init : goal.loop-d-init
 loop-d-init c =
-    (omega arith, sym (image_none _))
+    sym (image_none _)
 
 pub overflow_add-at : goal.overflow_add-at
 overflow_add-at c =
-    omega (arith, within _ _ (omega arith) c.image_size-at.ensures c.loop-d.invariant.1 _ c.loop-d-test.true)
+    omega (arith, within _ _ (omega arith) c.image_size-at.ensures c.loop-d.invariant _ c.loop-d-test.true)
 
 pub loop-d-preserved : goal.loop-d-preserved
 loop-d-preserved c =
-    (omega arith, more _ _ (omega arith) c.image_size-at.ensures c.loop-d.invariant.1)
+    more _ _ (omega arith) c.image_size-at.ensures c.loop-d.invariant
 
 pub returns : goal.returns
 returns c =
-    ended _ (omega arith) c.loop-d.invariant.1
+    ended _ (omega arith) c.loop-d.invariant

@@ -1,11 +1,7 @@
 -- The images before it, one after another.
-use Prim.Native.Nat.{◌-◌, ◌≤◌}
 use mathlib.Core.Path.{◌≡◌}
 use Rattle.image.specs.Cluster.{image_at}
 use Rattle.locate.proofs.image_at.Given as goal
 
 abbrev pub invariant-loop-d : goal.invariant-loop-d
-invariant-loop-d l = (l.d ≤ l.c) × (l.at ≡ image_at l.shape l.d)
-
-abbrev pub decreases-loop-d : goal.decreases-loop-d
-decreases-loop-d l = l.c - l.d
+invariant-loop-d l = l.at ≡ image_at l.shape l.d

@@ -1,4 +1,3 @@
-use Prim.Native.Nat.{◌-◌}
 use mathlib.Core.Path.{refl}
 use Rattle.image.proofs.SlotLaws.{list_start, list_more, list_end}
 use borrow.Author.Rules.{rules}
@@ -7,12 +6,12 @@ use Rattle.read.proofs.fill_epochs.Goals as goal
 
 pub loop-k-init : goal.loop-k-init
 loop-k-init c =
-    (search rules, search rules, list_start _)
+    (search rules, list_start _)
 
 pub loop-k-preserved : goal.loop-k-preserved
 loop-k-preserved c =
-    (search rules, search rules, list_more _ _ _ _ (omega arith) c.loop-k.invariant.2 refl)
+    (search rules, list_more _ _ _ _ (omega arith) c.loop-k.invariant.1 refl)
 
 pub returns : goal.returns
 returns c =
-    list_end _ _ _ _ (omega arith) (omega arith) c.loop-k.invariant.2
+    list_end _ c.loop-k.k _ _ (omega arith) (omega arith) c.loop-k.invariant.1

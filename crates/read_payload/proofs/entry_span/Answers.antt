@@ -17,12 +17,12 @@ overflow_add-start c =
 
 pub overflow_add-result : goal.overflow_add-result
 overflow_add-result c =
-    omega (arith, entry_ends c.args.shape c.args.k c.requires.1, span_short _ _ _ _ c.requires.1 _ c.entry_state.ensures c.in-Intact.is)
+    omega (arith, entry_ends c.args.shape c.args.k c.requires.1, span_short _ _ _ _ c.requires.1 _ c.entry_state.ensures c.in-Some.is)
 
 pub returns : goal.returns
 returns c =
     let there = c.entry_state.ensures in
-    let found = c.in-Intact.is in
+    let found = c.in-Some.is in
     let km = c.requires.1 in
     let at : c.entry_at-start.result + 26 ≡ entry_at c.args.shape c.args.k + 26 = ap (λ (z : ℕ). z + 26) c.entry_at-start.ensures in
     (record { ordered = omega arith; within = span_fits _ _ _ _ km _ there found at c.requires.2 }, λ i card w. span_there _ _ _ _ km _ there found at)

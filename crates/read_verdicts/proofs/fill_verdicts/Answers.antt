@@ -1,18 +1,18 @@
-use Prim.Native.Nat.{◌-◌}
+use mathlib.Core.Path.{◌∙◌}
 use Rattle.image.proofs.SlotLaws.{list_start}
-use Rattle.image.proofs.VerdictSteps.{verdicts_more, verdicts_end}
+use Rattle.image.proofs.VerdictSteps.{verdict_byte, verdicts_more, verdicts_end}
 use borrow.Author.Rules.{rules}
 use native.Mathlib.Omega.{arith}
 use Rattle.read_verdicts.proofs.fill_verdicts.Goals as goal
 
 pub loop-k-init : goal.loop-k-init
 loop-k-init c =
-    (search rules, search rules, λ i card s. list_start _)
+    (search rules, λ i card s. list_start _)
 
 pub loop-k-preserved : goal.loop-k-preserved
 loop-k-preserved c =
-    (search rules, search rules, λ i card. verdicts_more _ _ _ _ _ _ _ (omega arith) (omega arith) (c.verdict.ensures i card) (c.loop-k.invariant.2 i card))
+    (search rules, λ i card. verdicts_more _ _ _ _ _ _ _ (omega arith) (omega arith) (verdict_byte c.verdict.result ∙ c.verdict.ensures i card) (c.loop-k.invariant.1 i card))
 
 pub returns : goal.returns
 returns c =
-    λ i card s. verdicts_end _ _ _ _ (omega arith) (omega arith) (c.loop-k.invariant.2 i card s)
+    λ i card s. verdicts_end _ _ c.loop-k.k _ (omega arith) (omega arith) (c.loop-k.invariant.1 i card s)

@@ -1,21 +1,28 @@
--- `verdict` goes by the number of the condition; what is faulty or unused, by the entry too.
-use Rattle.image.specs.View.{Unused, Faulty}
-use Rattle.image.proofs.VerdictSteps.{verdict_none, verdict_by, verdict_same}
-use native.Mathlib.Omega.{arith}
+-- `verdict` goes by the condition; of what is faulty or unused, by the entry too.
+use Rattle.std.proofs.Common.{rules}
+use mathlib.Core.Logic.{◌⊎◌, inl, inr}
+use mathlib.Core.Path.{◌≡◌, refl, sym}
+use Prim.Native.Nat.{ℕ}
+use Rattle.record.specs.Meaning.{Entry}
+use Rattle.image.specs.declared.condition.Condition.{Condition}
+use Rattle.image.specs.Verdict.{verdict_of}
+use Rattle.image.specs.declared.condition.Condition.TheVariants.{Lost, RecordOnly}
 use Rattle.read_verdicts.proofs.verdict.Goals as goal
 
-pub returns-then-condition-ge-LOST : goal.returns-then-condition-ge-LOST
-returns-then-condition-ge-LOST c =
-    λ i card. verdict_none _ _ _ _ (omega arith)
+pub returns-in-Whole : goal.returns-in-Whole
+unfolding verdict_of
+returns-in-Whole c = search rules
 
-pub returns-then-condition-eq-FAULTY : goal.returns-then-condition-eq-FAULTY
-returns-then-condition-eq-FAULTY c =
-    λ i card. verdict_by _ _ _ _ _ Faulty c.if-condition-eq-FAULTY.true (c.faulty_verdict.ensures _ (c.entry_state.ensures i card))
+pub returns-in-RecordLost : goal.returns-in-RecordLost
+unfolding verdict_of
+returns-in-RecordLost c = search rules
 
-pub returns-then-condition-eq-UNUSED : goal.returns-then-condition-eq-UNUSED
-returns-then-condition-eq-UNUSED c =
-    λ i card. verdict_by _ _ _ _ _ Unused c.if-condition-eq-UNUSED.true (c.unused_verdict.ensures i _ card)
+-- a slot that is lost, or of a witness, has no verdict of its own
+lost_none : (used k : ℕ) (condition : Condition) (x : Entry) → (condition ≡ Lost) ⊎ (condition ≡ RecordOnly) → 0 ≡ verdict_of used k condition x
+unfolding verdict_of
+lost_none used k condition x (inl e) = sym (rw e refl)
+lost_none used k condition x (inr e) = sym (rw e refl)
 
-pub returns : goal.returns
-returns c =
-    λ i card. verdict_same _ _ _ _ (omega arith) c.if-condition-eq-FAULTY.false c.if-condition-eq-UNUSED.false
+pub returns-in-Lost : goal.returns-in-Lost
+returns-in-Lost c =
+    λ i card. lost_none _ _ _ _ c.in-Lost.is

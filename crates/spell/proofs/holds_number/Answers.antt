@@ -1,30 +1,28 @@
-use Prim.Native.Nat.{◌-◌}
 use mathlib.Core.Path.{◌∙◌}
-use native.Mathlib.Omega.{arith}
-use borrow.Author.Rules.{rules}
 use Rattle.column.proofs.LoopLaws.{holds_none, holds_start, holds_last_off, holds_step, holds_off, holds_end}
 use Rattle.spell.proofs.holds_number.Goals as goal
 
-pub returns-then-s-eq0 : goal.returns-then-s-eq0
-returns-then-s-eq0 c =
-    holds_none _ _ (omega arith)
+pub returns-in_default : goal.returns-in_default
+returns-in_default c =
+    holds_none _ _ c.in_default.ensures.cases
 
-pub returns-then-s-at : goal.returns-then-s-at
-returns-then-s-at c =
-    holds_last_off c.args.s.now _ _ _ (omega arith) c.last_byte-last.ensures c.if-s-at.true
+pub returns-then-last-last_byte : goal.returns-then-last-last_byte
+returns-then-last-last_byte c =
+    holds_last_off _ _ _ c.in-Some.ensures.cases.0 _ _ c.last_byte.ensures c.if-last-last_byte.true
 
-pub loop-at-init : goal.loop-at-init
-loop-at-init c =
-    (search rules, holds_start c.args.s.now _ _ _ (omega arith) c.last_byte-last.ensures c.if-s-at.false)
+pub loop-byte-init : goal.loop-byte-init
+loop-byte-init c =
+    rw (c.into_iter-byte-iterator.ensures.into_iter_gives, c.rev-byte-items.ensures.source, c.iter.ensures.rest)
+    (holds_start _ _ _ c.in-Some.ensures.cases.0 _ _ c.last_byte.ensures c.if-last-last_byte.false)
 
-pub returns-then-s-at-2 : goal.returns-then-s-at-2
-returns-then-s-at-2 c =
-    holds_off _ c.loop-at.at (c.loop-at.at - 1) c.loop-at.above _ (omega arith) (omega arith) c.high_byte-high.ensures (λ e. omega arith) ∙ c.loop-at.invariant.1
+pub returns-then-byte-high_byte : goal.returns-then-byte-high_byte
+returns-then-byte-high_byte c =
+    holds_off _ _ _ c.in-Some-byte.ensures.steps _ _ c.high_byte.ensures c.if-byte-high_byte.true ∙ c.loop-byte.invariant
 
-pub loop-at-preserved : goal.loop-at-preserved
-loop-at-preserved c =
-    (search rules, holds_step _ c.loop-at.at (c.loop-at.at - 1) c.loop-at.above _ (omega arith) (omega arith) c.high_byte-high.ensures (omega arith) ∙ c.loop-at.invariant.1)
+pub loop-byte-preserved : goal.loop-byte-preserved
+loop-byte-preserved c =
+    holds_step _ _ _ c.in-Some-byte.ensures.steps _ _ c.high_byte.ensures c.if-byte-high_byte.false ∙ c.loop-byte.invariant
 
 pub returns : goal.returns
 returns c =
-    holds_end _ _ c.loop-at.above c.loop-at-test.false ∙ c.loop-at.invariant.1
+    holds_end _ _ c.in-None.ensures.steps.0 ∙ c.loop-byte.invariant

@@ -1,4 +1,3 @@
-use Prim.Native.Nat.{◌-◌}
 use mathlib.Core.Path.{refl, sym, ◌∙◌}
 use native.Mathlib.Omega.{arith}
 use native.Mathlib.Numerals.{add-one}
@@ -8,19 +7,19 @@ use Rattle.column.proofs.ColumnLaws.{step_lt}
 use Rattle.column.proofs.LoopLaws.{value_step, value_end, pow_le}
 use Rattle.spell.proofs.number_in.Goals as goal
 
-pub loop-i-init : goal.loop-i-init
+pub loop-byte-init : goal.loop-byte-init
 unfolding value_of
-loop-i-init c =
-    (search rules, search rules, refl)
+loop-byte-init c =
+    (search rules, refl)
 
 pub digit_step-v-requires : goal.digit_step-v-requires
 digit_step-v-requires c =
-    omega (arith, pow_le c.loop-i.i (omega arith))
+    omega (arith, pow_le c.loop-byte.byte-index (omega arith))
 
-pub loop-i-preserved : goal.loop-i-preserved
-loop-i-preserved c =
-    (search rules, rw (c.digit_step-v.ensures, add-one) (step_lt _ _ _ c.loop-i.invariant.1), rw c.digit_step-v.ensures (sym (value_step _ _ _ c.loop-i-test.true) ∙ c.loop-i.invariant.2))
+pub loop-byte-preserved : goal.loop-byte-preserved
+loop-byte-preserved c =
+    (rw (c.digit_step-v.ensures, add-one) (step_lt _ _ _ c.loop-byte.invariant.0), rw c.digit_step-v.ensures (sym (value_step _ _ _ c.loop-byte-test.true) ∙ c.loop-byte.invariant.1))
 
 pub returns : goal.returns
 returns c =
-    sym (value_end _ _ _ c.loop-i-test.false) ∙ c.loop-i.invariant.2
+    sym (value_end _ _ _ c.loop-byte-test.false) ∙ c.loop-byte.invariant.1

@@ -1,4 +1,3 @@
-use Prim.Native.Nat.{◌-◌, ◌≤◌}
 use Rattle.planner.specs.Setting.{setting_of}
 use Rattle.planner.specs.Plan.{views_in}
 use Rattle.planner.proofs.SeenLaws.{Partly}
@@ -6,7 +5,4 @@ use Rattle.survey.proofs.survey_cluster.Given as goal
 
 abbrev pub invariant-replicas : goal.invariant-replicas
 invariant-replicas l =
-    (l.shape.n ≤ 7) × (l.c ≤ l.shape.n) × Partly l.shape.m (views_in (setting_of l.shape 0 l.present) l.cluster) l.readable l.firsts l.lengths l.conditions l.epochs l.c
-
-abbrev pub decreases-replicas : goal.decreases-replicas
-decreases-replicas l = l.shape.n - l.c
+    Partly l.shape.m (views_in (setting_of l.shape 0 l.present) l.cluster) l.readable l.firsts l.lengths l.conditions l.epochs l.c

@@ -1,4 +1,3 @@
-use Prim.Native.Nat.{◌-◌}
 use Rattle.planner.proofs.RowLaws.{rows_none, rows_more, rows_all}
 use borrow.Author.Rules.{rules}
 use native.Mathlib.Omega.{arith}
@@ -6,7 +5,7 @@ use Rattle.tabulate.proofs.survey_rows.Goals as goal
 
 pub loop-c-init : goal.loop-c-init
 loop-c-init c =
-    (search rules, search rules, rows_none _)
+    (search rules, rows_none _)
 
 pub replica_row-requires : goal.replica_row-requires
 replica_row-requires c =
@@ -14,8 +13,8 @@ replica_row-requires c =
 
 pub loop-c-preserved : goal.loop-c-preserved
 loop-c-preserved c =
-    (search rules, search rules, rows_more _ _ _ (omega arith) c.loop-c.invariant.2 c.replica_row.ensures)
+    (search rules, rows_more _ _ _ (omega arith) c.loop-c.invariant.1 c.replica_row.ensures)
 
 pub returns : goal.returns
 returns c =
-    record { sized = c.loop-c.invariant.1; rows = rows_all _ _ _ _ c.loop-c.invariant.0 c.loop-c-test.false c.loop-c.invariant.2 }
+    record { sized = c.loop-c.invariant.0; rows = rows_all _ _ _ _ (omega arith) c.loop-c-test.false c.loop-c.invariant.1 }

@@ -1,12 +1,6 @@
--- `falls` compares neighbours: below k no epoch falls.
-use Prim.Native.Nat.{◌-◌, ◌≤◌}
-use mathlib.Core.Path.{◌≡◌}
-use mathlib.Core.Bool.{true}
-use Rattle.image.specs.Scan.{rising_in}
+-- Up to k no used slot's epoch is below the one before it.
+use Rattle.image.proofs.ScanLaws.{RisesTo}
 use Rattle.vet_scan.proofs.falls.Given as goal
 
 abbrev pub invariant-loop-k : goal.invariant-loop-k
-invariant-loop-k l = (l.k ≤ l.m) × (rising_in l.k l.length l.epochs ≡ true)
-
-abbrev pub decreases-loop-k : goal.decreases-loop-k
-decreases-loop-k l = l.length - l.k
+invariant-loop-k l = RisesTo l.used l.k

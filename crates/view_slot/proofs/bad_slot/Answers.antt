@@ -2,10 +2,10 @@
 use Rattle.image.proofs.SlotLaws.{bad_broken, bad_intact}
 use Rattle.view_slot.proofs.bad_slot.Goals as goal
 
-pub returns-in_default : goal.returns-in_default
-returns-in_default c =
-    bad_broken c.in_default.is
+pub returns-in-Some : goal.returns-in-Some
+returns-in-Some c =
+    bad_intact c.in-Some.is
 
-pub returns : goal.returns
-returns c =
-    bad_intact c.in-Intact.is
+pub returns-in-None : goal.returns-in-None
+returns-in-None c =
+    bad_broken c.in-None.is

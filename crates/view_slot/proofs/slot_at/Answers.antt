@@ -15,8 +15,8 @@ returns-in-Blank c =
 
 pub returns-in_default : goal.returns-in_default
 returns-in_default c =
-    slot_bad _ _ _ _ (is_bad _ c.in_default.not-Good c.in_default-record.not-Blank) (c.record_state-record.ensures _) (λ b. c.bad_slot.ensures b _ c.entry_of.ensures)
+    slot_bad _ _ _ (is_bad _ c.in_default.not-Good c.in_default-record.not-Blank) (c.record_state-record.ensures _) (λ b. c.bad_slot.ensures b _ c.entry_of.ensures)
 
 pub returns : goal.returns
 returns c =
-    slot_good _ _ _ _ c.in-Good.is (c.record_state-record.ensures _) (c.good_slot.ensures _ c.entry_of-2.ensures)
+    slot_good _ _ _ c.in-Good.is (c.record_state-record.ensures _) (c.good_slot.ensures _ c.entry_of-2.ensures)
