@@ -69,6 +69,10 @@ pub fn walk_slots<'a>(
         let mut c = 0;
         let donor = loop {
             if n <= c {
+                if may_truncate(readable, conditions, epochs, n, leader, k) {
+                    end = k;
+                    break 'slots;
+                }
                 break None;
             }
             if has_slot(readable, conditions, epochs, leader, k, c) {
@@ -76,10 +80,6 @@ pub fn walk_slots<'a>(
             }
             c += 1;
         };
-        if donor.is_none() && may_truncate(readable, conditions, epochs, n, leader, k) {
-            end = k;
-            break 'slots;
-        }
         bytes[k] = faulty_byte(donor);
     }
     Walk { bytes, end }
