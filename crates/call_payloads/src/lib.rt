@@ -33,5 +33,5 @@ pub fn payload(
 {
     let span = read_payload::payload_span(image, shape, replica, slot);
     *at = span.start;
-    *size = span.len();
+    *size = span.end - span.start;
 }

@@ -1,16 +1,16 @@
 // Entries.
 ghost use Rattle.call_records.specs.Records.{WriteEntryCall, WriteFreshEntryCall, JudgeEntryCall};
 
+use crate::WRONG_LENGTH;
 use call_pieces::WRITTEN;
 use image::refusal::Refusal;
 use locate::{ENTRY_SIZE, MAX_PAYLOAD};
 
-// What `judge_entry` answers: C's `enum rope_entry`.
+// What `judge_entry` answers: C's `enum rope_entry`, but for WRONG_LENGTH.
 #[derive(Clone, Copy)]
 enum EntryCode {
     Intact = 0,
     Broken = 1,
-    WrongLength = 3,
 }
 
 // Writes the entry of an epoch, an index and a payload: 0, or 3 or 9 and nothing written.
@@ -47,7 +47,7 @@ pub fn judge_entry(bytes: &[u8], index: u32, epoch: &mut u32, size: &mut usize) 
     ensures { JudgeEntryCall bytes.now index epoch.old epoch.new size.old size.new result }
 {
     if bytes.len() != ENTRY_SIZE {
-        return EntryCode::WrongLength as u8;
+        return WRONG_LENGTH;
     }
     match judge::judge_entry(bytes, u64::from(index)) {
         Some(found) => {

@@ -1,18 +1,18 @@
 // Records.
 ghost use Rattle.call_records.specs.Records.{WriteRecordCall, WriteBlankRecordCall, JudgeRecordCall};
 
+use crate::WRONG_LENGTH;
 use call_pieces::WRITTEN;
 use image::refusal::Refusal;
 use locate::RECORD_SIZE;
 use record::RecordState;
 
-// What `judge_record` answers: C's `enum rope_record`.
+// What `judge_record` answers: C's `enum rope_record`, but for WRONG_LENGTH.
 #[derive(Clone, Copy)]
 enum RecordCode {
     Good = 0,
     Blank = 1,
     Bad = 2,
-    WrongLength = 3,
 }
 
 // Writes the record of an epoch and an index: 0, or 3 and nothing written.
@@ -46,7 +46,7 @@ pub fn judge_record(bytes: &[u8], index: u32, epoch: &mut u32) -> u8
     ensures { JudgeRecordCall bytes.now index epoch.old epoch.new result }
 {
     if bytes.len() != RECORD_SIZE {
-        return RecordCode::WrongLength as u8;
+        return WRONG_LENGTH;
     }
     match judge::judge_record(bytes, u64::from(index)) {
         RecordState::Good(e) => {

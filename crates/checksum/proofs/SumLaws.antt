@@ -1,12 +1,12 @@
 -- Laws of the two sums: their bounds, and how a scan of a slice steps through them.
-use Prim.Native.Nat.{ℕ, suc, ◌+◌, ◌*◌, ◌%◌, ◌<◌, ◌≤◌}
-use mathlib.Core.Path.{◌≡◌, refl, ◌∙◌, ap, ap₂}
+use Prim.Native.Nat.{ℕ, suc, ◌+◌, ◌*◌, ◌%◌, ◌-◌, ◌<◌, ◌≤◌}
+use mathlib.Core.Path.{◌≡◌, refl, sym, ◌∙◌, ap, ap₂}
 use mathlib.Core.List.{List, [], ◌∷◌, ◌++◌}
 use native.Mathlib.Omega.{arith}
 use native.Mathlib.Numerals.{add-one}
 use native.Mathlib.Nat.{mod-add-mod, add-mod-mod}
-use lib.ListN.{length, drop, get_or, drop_of_length-le}
-use lib.Seq.{drop-cons}
+use lib.ListN.{length, take, drop, get_or, drop_of_length-le, take-append-drop}
+use lib.Seq.{drop-cons, drop-drop}
 use Rattle.checksum.specs.Checksum.{sum_a, sum_b, checksum_of}
 
 pub sum_a_lt : (a : ℕ) (xs : List ℕ) → a < 65535 → sum_a a xs < 65535
@@ -76,15 +76,17 @@ unfolding sum_a sum_b
 sum_b_append a b [] ys = refl
 sum_b_append a b (x ∷ xs) ys = sum_b_append ((a + x) % 65535) ((b + (a + x) % 65535) % 65535) xs ys
 
-pub sum_a_none : (a : ℕ) (xs : List ℕ) → length xs ≡ 0 → sum_a a xs ≡ a
-unfolding sum_a
-sum_a_none a [] h = refl
-sum_a_none a (x ∷ xs) h = absurd (omega arith)
+split : (s : List ℕ) (i e : ℕ) → i ≤ e → take (e - i) (drop i s) ++ drop e s ≡ drop i s
+split s i e h =
+    let k : i + (e - i) ≡ e = omega arith in
+    rw (sym k, sym (drop-drop (e - i) i s)) (rw k (take-append-drop (e - i) (drop i s)))
 
-pub sum_b_none : (a b : ℕ) (xs : List ℕ) → length xs ≡ 0 → sum_b a b xs ≡ b
-unfolding sum_b
-sum_b_none a b [] h = refl
-sum_b_none a b (x ∷ xs) h = absurd (omega arith)
+pub chunks_a : (s : List ℕ) (a i e : ℕ) → i ≤ e → sum_a (sum_a a (take (e - i) (drop i s))) (drop e s) ≡ sum_a a (drop i s)
+chunks_a s a i e h = sym (sum_a_append a (take (e - i) (drop i s)) (drop e s)) ∙ ap (sum_a a) (split s i e h)
+
+pub chunks_b : (s : List ℕ) (a b i e : ℕ) → i ≤ e
+    → sum_b (sum_a a (take (e - i) (drop i s))) (sum_b a b (take (e - i) (drop i s))) (drop e s) ≡ sum_b a b (drop i s)
+chunks_b s a b i e h = sym (sum_b_append a b (take (e - i) (drop i s)) (drop e s)) ∙ ap (sum_b a b) (split s i e h)
 
 pub chunks_end_a : (s : List ℕ) (a i : ℕ) → length s ≤ i → sum_a a (drop i s) ≡ sum_a 1 s → a ≡ sum_a 1 s
 unfolding sum_a

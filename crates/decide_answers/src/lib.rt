@@ -2,7 +2,7 @@
 // A survey's numbers are lent: slot k of replica c stands at c * MAX_SLOTS + k. Replicas and slots count from 0 here.
 #![tactic(auto)]
 
-ghost use Rattle.std.specs.Prelude.{ℕ, ◌<◌, ◌≤◌, ◌≡◌, not, ◌&&◌, ◌||◌, eqb};
+ghost use Rattle.std.specs.Prelude.{ℕ, ◌<◌, ◌≤◌, ◌≡◌, not, ◌&&◌, eqb};
 ghost use Rattle.search.specs.Search.{count};
 ghost use Rattle.search.specs.Sets.{has};
 ghost use Rattle.planner.specs.Rules.{have, dont_have, may_truncate};
@@ -12,13 +12,7 @@ ghost use Rattle.planner.specs.Survey.{agrees_at, survey_setting, survey_views};
 use image::{MAX_SLOTS, condition};
 use planner::SURVEY_SLOTS;
 use survey_sets::{contains, insert};
-
-// Whether a condition, by number, is whole, its record lost or not.
-fn is_whole(condition: u8) -> bool
-    ensures { result ≡ (eqb condition 1 || eqb condition 2) }
-{
-    condition == condition::WHOLE || condition == condition::RECORD_LOST
-}
+use view_slot::is_whole;
 
 // Whether replica c answers: it is readable and not the leader.
 fn can_answer(readable: u32, leader: usize, c: usize) -> bool

@@ -58,28 +58,30 @@ pub fn walk_slots<'a>(
         result.bytes result.end }
 {
     let mut bytes = [0u8; MAX_SLOTS];
-    let end = 'slots: {
-        for k in 0..length {
-            let condition = conditions[leader * MAX_SLOTS + k];
-            if condition != condition::FAULTY {
-                bytes[k] = kept_byte(condition);
-                continue;
-            }
-            let donor = 'replicas: {
-                for c in 0..n {
-                    if has_slot(readable, conditions, epochs, leader, k, c) {
-                        break 'replicas Some(c);
-                    }
-                }
-                None
-            };
-            if donor.is_none() && may_truncate(readable, conditions, epochs, n, leader, k) {
-                break 'slots k;
-            }
-            bytes[k] = faulty_byte(donor);
+    let mut end = length;
+    'slots: for k in 0..length {
+        let condition = conditions[leader * MAX_SLOTS + k];
+        if condition != condition::FAULTY {
+            bytes[k] = kept_byte(condition);
+            continue;
         }
-        length
-    };
+        // A loop that yields, as document 01 wants it: a `for` yields nothing, and `find` hides the walk.
+        let mut c = 0;
+        let donor = loop {
+            if n <= c {
+                if may_truncate(readable, conditions, epochs, n, leader, k) {
+                    end = k;
+                    break 'slots;
+                }
+                break None;
+            }
+            if has_slot(readable, conditions, epochs, leader, k, c) {
+                break Some(c);
+            }
+            c += 1;
+        };
+        bytes[k] = faulty_byte(donor);
+    }
     Walk { bytes, end }
 }
 

@@ -6,6 +6,8 @@ ghost use Rattle.search.specs.Search.{listed};
 ghost use Rattle.image.specs.Seen.{slot_in};
 ghost use Rattle.image.specs.Answers.{log_numbers, read_call_numbers, epochs_left, verdicts_left};
 
+pub mod by_number; // by_number.rt: the same of epochs by number
+
 use image::condition::Slot;
 use image::refusal::Refusal;
 use image::{Log, MAX_SLOTS};

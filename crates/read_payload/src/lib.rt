@@ -17,9 +17,15 @@ use image::condition::Slot;
 use image::refusal::Refusal;
 use locate::{PAYLOAD_AT, entry_at};
 use record::Shape;
-use std::ops::Range;
 use view_open::open_card;
 use view_slot::entry_state;
+
+// Where a payload stands in the image. A struct of its own: the library's `Range` is not `Copy`.
+#[derive(Clone, Copy)]
+pub struct Span {
+    pub start: usize,
+    pub end: usize,
+}
 
 // Whether a slot, by its number, is there and whole.
 fn holds_payload(slots: &[Slot], slot: usize) -> bool
@@ -40,7 +46,7 @@ pub fn has_payload(image: &[u8], shape: Shape, replica: usize, slot: usize) -> R
 }
 
 // Where the payload of slot k, counted from 0, stands if it is whole.
-fn entry_span(image: &[u8], shape: Shape, first: u32, k: usize) -> Range<usize>
+fn entry_span(image: &[u8], shape: Shape, first: u32, k: usize) -> Span
     requires { (shape.m ≤ 64) × (k < shape.m) × (entry_at shape shape.m ≤ length image.now) }
     ensures { SpanIn (length image.now) result.start result.end
         × ((c : ℕ) → is_witness shape c ≡ false → is_whole (condition_at (decode_under shape c first image.now) k) ≡ true
@@ -48,23 +54,26 @@ fn entry_span(image: &[u8], shape: Shape, first: u32, k: usize) -> Range<usize>
         × (result.start ≡ entry_at shape k + 26)) }
 {
     let Some(entry) = entry_state(image, shape, first, k) else {
-        return 0..0;
+        return Span { start: 0, end: 0 };
     };
     let start = entry_at(shape, k) + PAYLOAD_AT;
-    start..start + entry.size
+    Span {
+        start,
+        end: start + entry.size,
+    }
 }
 
 // Where the payload of a slot of a card stands, or an empty span at 0.
-pub fn payload_span(image: &[u8], shape: Shape, replica: usize, slot: usize) -> Range<usize>
+pub fn payload_span(image: &[u8], shape: Shape, replica: usize, slot: usize) -> Span
     ensures { SpanIn (length image.now) result.start result.end
         × ((part image.now result.start (result.end - result.start) ≡ payload_of shape replica image.now slot)
         × (result.start ≡ payload_at shape replica image.now slot)) }
 {
     let Ok(view) = open_card(image, shape, replica) else {
-        return 0..0;
+        return Span { start: 0, end: 0 };
     };
     if !holds_payload(&view.slots[..shape.m], slot) {
-        return 0..0;
+        return Span { start: 0, end: 0 };
     }
     entry_span(image, shape, view.first, slot - 1)
 }
@@ -73,5 +82,6 @@ pub fn payload_span(image: &[u8], shape: Shape, replica: usize, slot: usize) -> 
 pub fn payload_of(image: &[u8], shape: Shape, replica: usize, slot: usize) -> &[u8]
     ensures { result.now ≡ payload_of shape replica image.now slot }
 {
-    &image[payload_span(image, shape, replica, slot)]
+    let span = payload_span(image, shape, replica, slot);
+    &image[span.start..span.end]
 }

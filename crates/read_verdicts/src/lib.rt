@@ -11,6 +11,8 @@ ghost use Rattle.image.specs.Verdict.{is_fresh, verdict_number, verdict_of};
 ghost use Rattle.image.specs.Scan.{Marked};
 ghost use Rattle.image.specs.Read.{verdicts_of};
 
+pub mod by_number; // by_number.rt: the same of conditions by number
+
 use image::MAX_SLOTS;
 use image::condition::{Condition, Slot};
 use image::verdict::Verdict;

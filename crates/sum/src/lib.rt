@@ -38,22 +38,38 @@ fn combined(sums: Sums) -> u32
     (sums.b << 16) + sums.a
 }
 
-// The sums after all bytes, chunk after chunk. Compiled by itself, so that few bytes wait for no register to be saved.
+// The sums after all bytes, chunk after chunk. Compiled by itself, so that few bytes wait for no register to be saved. A chunk's end is found
+// here and not by the library's `chunks`: every operation that this crate's code goes through stands in it, where `.ci/checksum` looks.
 #[inline(never)]
 fn after_chunks(s: &[u8]) -> Sums
     ensures first { result.a ≡ sum_a 1 s.now }
     ensures second { result.b ≡ sum_b 1 0 s.now }
 {
     let mut sums = Sums { a: 1, b: 0 };
-    for chunk in s.chunks(CHUNK) {
-        sums = after_chunk(chunk, sums);
+    let mut i: usize = 0;
+    while i < s.len() {
+        let e = chunk_end(i, s.len());
+        sums = after_chunk(&s[i..e], sums);
+        i = e;
     }
     sums
 }
 
+// Where the chunk that begins at i ends, in a slice of that length.
+fn chunk_end(i: usize, length: usize) -> usize
+    requires { i < length }
+    ensures { (i < result) × (result ≤ length) × (result ≤ i + 2048) }
+{
+    if CHUNK < length - i {
+        i + CHUNK
+    } else {
+        length
+    }
+}
+
 // The sums after one chunk of bytes, from sums that are reduced. Row after row, x has eight first sums, of the bytes, and y eight second
-// sums, of those in x; the first sum so far goes to the first place. Rows are split off and not made by `chunks_exact` or `as_chunks`, which
-// divide. Compiled into its caller the loop is not unrolled, and takes 1.2 times as long.
+// sums, of those in x; the first sum so far goes to the first place. Rows are split off by a range, which calls nothing. Compiled into its
+// caller the loop is not unrolled, and takes 1.2 times as long.
 #[inline(never)]
 fn after_chunk(s: &[u8], sums: Sums) -> Sums
     requires { (length s.now ≤ 2048) × (sums.a < 65535) × (sums.b < 65535) }
@@ -63,10 +79,10 @@ fn after_chunk(s: &[u8], sums: Sums) -> Sums
     let mut x = eight::first_only(sums.a);
     let mut y = eight::first_only(0);
     let mut rest = s;
-    while let Some((row, more)) = rest.split_first_chunk::<8>() {
-        x = x + eight::bytes_of(row);
+    while 8 <= rest.len() {
+        x = x + eight::bytes_of(&rest[..8]);
         y = y + x;
-        rest = more;
+        rest = &rest[8..];
     }
     after_bytes(rest, eight::total(x), eight::second_sum(x, y, sums.b))
 }
@@ -80,7 +96,7 @@ fn after_bytes(s: &[u8], a: u32, b: u32) -> Sums
     let mut x = a;
     let mut y = b;
     for byte in s {
-        x += u32::from(*byte);
+        x += *byte as u32;
         y += x;
     }
     Sums {

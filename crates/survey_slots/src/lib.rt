@@ -6,6 +6,8 @@ ghost use Rattle.image.specs.View.{condition_number};
 ghost use Rattle.image.specs.Seen.{slot_in};
 ghost use Rattle.planner.specs.Survey.{Copied, number_as};
 
+pub mod by_number; // by_number.rt: the same of conditions and epochs by number
+
 use image::MAX_SLOTS;
 use image::condition::{self, Condition};
 use planner::SURVEY_SLOTS;

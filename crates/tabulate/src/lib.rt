@@ -1,7 +1,7 @@
 // The rows of the planner's table.
 #![tactic(auto)]
 
-ghost use Rattle.std.specs.Prelude.{ℕ, ◌+◌, ◌-◌, ◌<◌, ◌≤◌, ◌≡◌, true, cond, eqb, length, get_or, take};
+ghost use Rattle.std.specs.Prelude.{ℕ, ◌<◌, ◌≤◌, ◌≡◌, true, length, get_or, take};
 ghost use Rattle.search.specs.Sets.{has};
 ghost use Rattle.planner.specs.Tabulated.{number_row, no_row, front_rows};
 ghost use Rattle.search.specs.Search.{listed};
@@ -9,6 +9,7 @@ ghost use Rattle.search.specs.Search.{listed};
 use image::{MAX_REPLICAS, MAX_SLOTS};
 use planner::{PlanAnswer, ReplicaRow, SURVEY_SLOTS};
 use survey_sets::contains;
+use view::by_number::last_epoch;
 
 // What the planner found: its answer, how many rows there are to fill (none if it refused), and the rows.
 #[derive(Clone, Copy)]
@@ -16,17 +17,6 @@ pub struct PlanOutcome {
     pub answer: PlanAnswer,
     pub count: usize,
     pub rows: [ReplicaRow; MAX_REPLICAS],
-}
-
-// The epoch of the last of so many used slots, whose epochs begin at `from`; 0 if there is none.
-fn last_epoch(epochs: &[u32], from: usize, used: usize) -> u32
-    requires { from + used ≤ length epochs.now }
-    ensures { result ≡ cond (eqb used 0) 0 (get_or epochs.now (from + used - 1) 0) }
-{
-    if used == 0 {
-        return 0;
-    }
-    epochs[from + used - 1]
 }
 
 // The row of replica c.

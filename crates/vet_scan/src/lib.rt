@@ -5,6 +5,8 @@ ghost use Rattle.std.specs.Prelude.{◌≤◌, ◌≡◌, length};
 ghost use Rattle.image.specs.Refusal.{refusal_of};
 ghost use Rattle.image.specs.Scan.{length_in, gap_in, lost_in, falls_in, scan_refusal};
 
+pub mod by_number; // by_number.rt: the same of conditions and epochs by number
+
 use image::condition::Slot;
 use image::refusal::Refusal;
 

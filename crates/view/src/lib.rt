@@ -8,6 +8,8 @@ ghost use Rattle.image.specs.View.{is_slots, image_refusal};
 ghost use Rattle.image.specs.Seen.{Seen, slot_in};
 ghost use Rattle.image.specs.Scan.{Scanned};
 
+pub mod by_number; // by_number.rt: the last epoch, of epochs by number
+
 use image::MAX_SLOTS;
 use image::condition::Slot;
 use image::refusal::Refusal;

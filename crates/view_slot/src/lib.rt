@@ -1,14 +1,14 @@
 // One slot of an image as its scan finds it: its condition and epoch.
 #![tactic(auto)]
 
-ghost use Rattle.std.specs.Prelude.{ℕ, ◌<◌, ◌≤◌, ◌≡◌, false, List, length};
+ghost use Rattle.std.specs.Prelude.{ℕ, ◌<◌, ◌≤◌, ◌≡◌, false, ◌||◌, List, eqb, length};
 ghost use Rattle.record.specs.Layout.{is_witness};
 ghost use Rattle.record.specs.Meaning.{Entry, good, bad};
 ghost use Rattle.record.specs.Judged.{record_answer, entry_answer};
 ghost use Rattle.image.specs.Image.{image_size, record_at, entry_at, decode_under};
 ghost use Rattle.image.specs.Scan.{SlotIs};
 
-use image::condition::{Condition, Slot};
+use image::condition::{self, Condition, Slot};
 use locate::{ENTRY_SIZE, RECORD_SIZE, entry_at, index_of, is_witness, record_at};
 use record::{Intact, RecordState, Shape};
 
@@ -85,4 +85,11 @@ pub fn slot_at(image: &[u8], shape: Shape, replica: usize, first: u32, k: usize)
         return bad_slot(entry_of(image, shape, replica, first, k));
     };
     good_slot(epoch, entry_of(image, shape, replica, first, k))
+}
+
+// Whether a condition, by number as a table holds it, is whole, its record lost or not.
+pub fn is_whole(condition: u8) -> bool
+    ensures { result ≡ (eqb condition 1 || eqb condition 2) }
+{
+    condition == condition::WHOLE || condition == condition::RECORD_LOST
 }

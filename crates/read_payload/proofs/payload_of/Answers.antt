@@ -4,4 +4,4 @@ use Rattle.read_payload.proofs.payload_of.Goals as goal
 pub returns : goal.returns
 unfolding part
 returns c =
-    c.payload_span.ensures.1.0
+    c.payload_span-span.ensures.1.0

@@ -6,12 +6,11 @@ use Rattle.sum.proofs.after_bytes.Goals as goal
 pub loop-byte-preserved : goal.loop-byte-preserved
 loop-byte-preserved c =
     let byte = c.type_inv.s c.loop-byte.byte-index in
-    let value = c.from-x.ensures in
     let known = c.loop-byte.invariant in (
-      omega (arith, byte, value),
-      omega (arith, byte, value),
-      rw value (sym (law.chunk_step_a _ _ _ c.loop-byte-test.true) ∙ known.2),
-      rw value (sym (law.chunk_step_b _ _ _ _ c.loop-byte-test.true) ∙ known.3),
+      omega (arith, byte),
+      omega (arith, byte),
+      sym (law.chunk_step_a _ _ _ c.loop-byte-test.true) ∙ known.2,
+      sym (law.chunk_step_b _ _ _ _ c.loop-byte-test.true) ∙ known.3,
     )
 
 pub returns : goal.returns

@@ -3,8 +3,8 @@ use lib.ListN.{length}
 use Rattle.sum.proofs.RowLaws as law
 use Rattle.sum.proofs.after_chunk.Given as goal
 
-abbrev pub invariant-loop-row : goal.invariant-loop-row
-invariant-loop-row l = law.Rows l.s l.rest l.sums.a l.sums.b l.x l.y
+abbrev pub invariant-loop-rest : goal.invariant-loop-rest
+invariant-loop-rest l = law.Rows l.s l.rest l.sums.a l.sums.b l.x l.y
 
-abbrev pub decreases-loop-row : goal.decreases-loop-row
-decreases-loop-row l = length l.rest
+abbrev pub decreases-loop-rest : goal.decreases-loop-rest
+decreases-loop-rest l = length l.rest

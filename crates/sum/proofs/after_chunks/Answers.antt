@@ -1,26 +1,27 @@
-use mathlib.Core.Path.{sym, ◌∙◌, ap}
-use native.Mathlib.Omega.{arith}
-use Rattle.checksum.specs.Checksum.{sum_a, sum_b}
+use Prim.Native.Nat.{◌≤◌}
+use mathlib.Core.Path.{◌∙◌}
 use Rattle.checksum.proofs.SumLaws as law
+use borrow.Author.Rules.{rules}
+use native.Mathlib.Omega.{arith}
 use Rattle.sum.proofs.after_chunks.Goals as goal
 
-pub loop-chunk-preserved : goal.loop-chunk-preserved
-loop-chunk-preserved c =
-    let known = c.loop-chunk.invariant in
-    let step = c.in-Some.ensures.steps in
+pub loop-i-init : goal.loop-i-init
+loop-i-init c =
+    (search rules, search rules, search rules, law.chunks_start_a _ _ (omega arith), law.chunks_start_b _ _ _ (omega arith) (omega arith))
+
+pub loop-i-preserved : goal.loop-i-preserved
+loop-i-preserved c =
+    let known = c.loop-i.invariant in
     let sums = c.after_chunk-sums.ensures in
-    record {
-      can_next = omega (arith, step.0, known.size);
-      is_finite = tt;
-      size = step.0 ∙ known.size;
-      first_reduced = rw sums.first (law.sum_a_lt _ _ known.first_reduced);
-      second_reduced = rw sums.second (law.sum_b_lt _ _ _ known.second_reduced);
-      first = rw sums.first (sym (law.sum_a_append _ _ _) ∙ ap (sum_a _) (sym step.1.0) ∙ known.first);
-      second = rw (sums.first, sums.second) (sym (law.sum_b_append _ _ _ _) ∙ ap (sum_b _ _) (sym step.1.0) ∙ known.second);
-    }
+    let on : c.loop-i.i ≤ c.chunk_end-e.result = omega arith in (
+      search rules,
+      rw sums.first (law.sum_a_lt _ _ known.1),
+      rw sums.second (law.sum_b_lt _ _ _ known.2),
+      rw sums.first (law.chunks_a _ _ _ _ on ∙ known.3),
+      rw (sums.first, sums.second) (law.chunks_b _ _ _ _ _ on ∙ known.4),
+    )
 
 pub returns : goal.returns
 returns c =
-    let known = c.loop-chunk.invariant in
-    let none = c.in-None.ensures.steps.1.0 in
-    record { first = sym (law.sum_a_none _ _ none) ∙ known.first; second = sym (law.sum_b_none _ _ _ none) ∙ known.second }
+    let known = c.loop-i.invariant in
+    record { first = law.chunks_end_a _ _ _ c.loop-i-test.false known.3; second = law.chunks_end_b _ _ _ _ c.loop-i-test.false known.4 }
