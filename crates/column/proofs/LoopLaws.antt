@@ -6,8 +6,8 @@ use mathlib.Core.List.{[], ◌∷◌, ◌++◌, append_assoc}
 use native.Mathlib.Omega.{arith}
 use native.Mathlib.Numerals.{add-one}
 use native.Mathlib.Nat.{pow-le-pow_right}
-use lib.ListN.{length, drop, get_or, set, length-append, length-set, drop_of_length-le}
-use lib.Seq.{drop-cons, get_or-set_same, drop-set-lt}
+use lib.ListN.{length, take, drop, get_or, set, length-append, length-set, drop_of_length-le}
+use lib.Seq.{take-suc, drop-cons, get_or-set_same, drop-set-lt}
 use lib.Dec.{eqb}
 use borrow.Author.Tests.{eq-eqb, ne_eqb}
 use Rattle.slices.specs.Parts.{Bytes}
@@ -95,6 +95,10 @@ module _ (s front : Bytes) (b : ℕ) (parts : s ≡ front ++ (b ∷ [])) where
     pub holds_last_off : (b ≡ c → ⊥) → false ≡ same s (column (length s) x)
     holds_last_off k =
         sym (last_split ∙ same_snoc_off front (digits (length front) (x / 10)) b (last_byte x) (as_long (x / 10)) (λ q. k (q ∙ sym e)))
+
+-- the first i bytes, and the last of them
+pub last_left : (s : Bytes) (i j : ℕ) → i ≡ suc j → i ≤ length s → take i s ≡ take j s ++ (get_or s j 0 ∷ [])
+last_left s i j n h = let k : j < length s = omega arith in rw (n, take-suc s j 0 k) refl
 
 pub holds_end : (s : Bytes) (x : ℕ) → length s ≡ 0 → true ≡ same s (digits (length s) x)
 unfolding digits same

@@ -61,8 +61,8 @@ pub fn holds_number(s: &[u8], x: u64) -> bool
         return false;
     }
     let mut above: u64 = x / 10;
-    for byte in front.iter().rev() {
-        if *byte != high_byte(above) {
+    for at in (0..front.len()).rev() {
+        if front[at] != high_byte(above) {
             return false;
         }
         above /= 10;
