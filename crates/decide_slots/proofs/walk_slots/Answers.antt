@@ -17,7 +17,8 @@ slots-preserved c = (
   c.loop-c.invariant.1,
   elim c.if-n-c.branch [
     | else-n-c+then-has_slot w ↦
-        let fetched = fetched_slot _ _ c.args.length _ _ _ _ c.if-condition-ne-FAULTY.false _ w.if-n-c.false (sym (w.has_slot.ensures _ _) ∙ w.if-has_slot.true, c.loop-c.invariant.2) (rw w.donor-is at c.faulty_byte.ensures) in
+        let fetches = rw w.donor-is at c.faulty_byte.ensures in
+        let fetched = fetched_slot _ _ c.args.length _ _ _ _ c.if-condition-ne-FAULTY.false _ w.if-n-c.false (sym (w.has_slot.ensures _ _) ∙ w.if-has_slot.true, c.loop-c.invariant.2) (omega (arith, fetches)) in
         walked_more _ _ _ c.slots.invariant.1 (omega arith) fetched.0 fetched.1
     | then-n-c+else-may_truncate w ↦
         let waiting = waiting_slot _ _ c.args.length _ _ _ _ c.if-condition-ne-FAULTY.false (λ j h. c.loop-c.invariant.2 j (omega arith)) (sym (w.may_truncate.ensures _) ∙ w.if-may_truncate.false) (rw w.donor-is at c.faulty_byte.ensures) in
