@@ -1,8 +1,8 @@
 use Prim.Native.Nat.{◌-◌}
 use mathlib.Core.Path.{◌∙◌}
 use native.Mathlib.Omega.{arith}
-use lib.ListN.{length, length-take}
-use lib.Seq.{take_all}
+use lib.ListN.{length-take}
+use lib.Seq.{take-length}
 use Rattle.column.proofs.LoopLaws.{holds_none, holds_start, holds_last_off, holds_step, holds_off, holds_end, last_left}
 use Rattle.spell.proofs.holds_number.Goals as goal
 
@@ -16,7 +16,7 @@ returns-then-last-last_byte c =
 
 pub loop-at-init : goal.loop-at-init
 loop-at-init c =
-    rw (take_all (length c.in-Some.front.now) c.in-Some.front.now (omega arith))
+    rw (take-length c.in-Some.front.now)
     (holds_start _ _ _ c.in-Some.ensures.cases.0 _ _ c.last_byte.ensures c.if-last-last_byte.false)
 
 pub returns-then-front-at : goal.returns-then-front-at
